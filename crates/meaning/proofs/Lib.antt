@@ -1,0 +1,10 @@
+pub mod Value
+pub mod Event
+pub mod Kept
+pub mod Whole
+pub mod Valid
+pub mod Finish
+pub mod Linear
+pub mod Demand2
+pub mod Demand3
+pub mod Examples

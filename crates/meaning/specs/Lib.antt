@@ -1,0 +1,11 @@
+pub mod Forest
+pub mod Rules
+pub mod Image
+pub mod Value
+pub mod Event
+pub mod Held
+pub mod Count
+pub mod Denoted
+pub mod Valid
+pub mod Linear
+pub mod Examples
