@@ -8,7 +8,7 @@ use native.Mathlib.Omega.{arith}
 use borrow.Author.Tests.{lt-leb, ne-eqb}
 use lib.Dec.{eqb, leb, eqb→eq}
 use lib.ListN.{getD}
-use Rattle.alphabet.specs.Classes.{classOf, nameStart, namePart, text, leaf}
+use Rattle.alphabet.specs.Classes.{classOf, nameStart, namePart, isText, isLeaf}
 use Rattle.alphabet.proofs.Table.{at}
 
 -- the entries of CLASSES
@@ -19,11 +19,11 @@ right : ℕ → ℕ → Bool
 right k x = eqb x (classOf k)
 
 pub class-low : (b : ℕ) → b < 128 → getD classes b 0 ≡ classOf b
-unfolding classes right classOf nameStart namePart text leaf
+unfolding classes right classOf nameStart namePart isText isLeaf
 class-low b h = eqb→eq (getD classes b 0) (classOf b) (at right classes tt b h)
 
-high : (b : ℕ) → 128 ≤ b → (nameStart b ≡ false) × (namePart b ≡ false) × (text b ≡ false) × (leaf b ≡ false)
-unfolding nameStart namePart text leaf
+high : (b : ℕ) → 128 ≤ b → (nameStart b ≡ false) × (namePart b ≡ false) × (isText b ≡ false) × (isLeaf b ≡ false)
+unfolding nameStart namePart isText isLeaf
 high b h =
     let z : leb b 90 ≡ false = lt-leb b 90 (omega arith) in
     let y : leb b 122 ≡ false = lt-leb b 122 (omega arith) in
@@ -59,9 +59,9 @@ bit false false false true = (refl, refl, refl, refl)
 bit false false false false = (refl, refl, refl, refl)
 
 module _ (b : ℕ) where
-  bits : (eqb (classOf b % 2) 1 ≡ nameStart b) × (eqb (classOf b / 2 % 2) 1 ≡ namePart b) × (eqb (classOf b / 4 % 2) 1 ≡ text b) × (eqb (classOf b / 8 % 2) 1 ≡ leaf b)
+  bits : (eqb (classOf b % 2) 1 ≡ nameStart b) × (eqb (classOf b / 2 % 2) 1 ≡ namePart b) × (eqb (classOf b / 4 % 2) 1 ≡ isText b) × (eqb (classOf b / 8 % 2) 1 ≡ isLeaf b)
   unfolding classOf
-  bits = bit (nameStart b) (namePart b) (text b) (leaf b)
+  bits = bit (nameStart b) (namePart b) (isText b) (isLeaf b)
 
   pub start-bit : eqb (classOf b % 2) 1 ≡ nameStart b
   start-bit = bits .0
@@ -69,8 +69,8 @@ module _ (b : ℕ) where
   pub part-bit : eqb (classOf b / 2 % 2) 1 ≡ namePart b
   part-bit = bits .1
 
-  pub text-bit : eqb (classOf b / 4 % 2) 1 ≡ text b
+  pub text-bit : eqb (classOf b / 4 % 2) 1 ≡ isText b
   text-bit = bits .2
 
-  pub leaf-bit : eqb (classOf b / 8 % 2) 1 ≡ leaf b
+  pub leaf-bit : eqb (classOf b / 8 % 2) 1 ≡ isLeaf b
   leaf-bit = bits .3

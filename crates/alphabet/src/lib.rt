@@ -1,7 +1,7 @@
 // The bytes of logs, tables and sheets: which may begin a name, continue one, stand as text, and be a leaf.
 // Document 01, "The log": "A table of 128 classes, one for each byte below 128".
 ghost use mathlib.Core.Path.{_≡_};
-ghost use Rattle.alphabet.specs.Classes.{classOf, nameStart, namePart, text, leaf};
+ghost use Rattle.alphabet.specs.Classes.{classOf, nameStart, namePart, isText, isLeaf};
 
 // 1 begins a name, 2 continues one, 4 stands as text, 8 is a leaf that can be written.
 const CLASSES: [u8; 128] = [
@@ -151,26 +151,26 @@ fn class_of(b: u8) -> u8
     0
 }
 
-pub fn name_start(b: u8) -> bool
+pub fn is_name_start(b: u8) -> bool
     ensures { λ r. ⌜ r ≡ nameStart b ⌝ }
 {
     class_of(b) % 2 == 1
 }
 
-pub fn name_part(b: u8) -> bool
+pub fn is_name_part(b: u8) -> bool
     ensures { λ r. ⌜ r ≡ namePart b ⌝ }
 {
     class_of(b) / 2 % 2 == 1
 }
 
-pub fn text(b: u8) -> bool
-    ensures { λ r. ⌜ r ≡ text b ⌝ }
+pub fn is_text(b: u8) -> bool
+    ensures { λ r. ⌜ r ≡ isText b ⌝ }
 {
     class_of(b) / 4 % 2 == 1
 }
 
-pub fn leaf(b: u8) -> bool
-    ensures { λ r. ⌜ r ≡ leaf b ⌝ }
+pub fn is_leaf(b: u8) -> bool
+    ensures { λ r. ⌜ r ≡ isLeaf b ⌝ }
 {
     class_of(b) / 8 % 2 == 1
 }

@@ -1,0 +1,6 @@
+pub mod Side
+pub mod Format
+pub mod Rules
+pub mod Names
+pub mod Index
+pub mod Examples
