@@ -5,10 +5,11 @@
 --   ranksAt     the carried values of n states; each state's field has four bytes, the last one the number
 use Prim.Native.Nat.{ℕ, zero, suc, _+_}
 use mathlib.Core.List.{List, [], _∷_}
-use lib.ListN.{getD, take, drop}
+use lib.ListN.{getD}
+use lib.Seq.{slice}
 
 unfoldable pub nameAt : List ℕ → ℕ → List ℕ
-nameAt l at = take (getD l (at + 2) 0) (drop (at + 3) l)
+nameAt l at = slice (at + 3) (at + 3 + getD l (at + 2) 0) l
 
 unfoldable pub namesAt : List ℕ → (at k : ℕ) → List (List ℕ)
 namesAt l at zero = []
