@@ -1,3 +1,4 @@
 pub mod Runs
 pub mod Naming
+pub mod Sides
 pub mod Examples

@@ -10,7 +10,7 @@ use lib.Seq.{slice}
 use lib.Dec.{eqb}
 use Rattle.meaning.specs.Denoted.{at}
 use Rattle.table.specs.Format.{sameBytes, numberOf}
-use Rattle.table.specs.Names.{nameAt, namesAt}
+use Rattle.table.specs.Names.{nameAt, namesAt, ranksAt}
 use Rattle.table.specs.Rules.{count}
 
 -- lists of other lengths differ
@@ -78,3 +78,15 @@ module _ (l b : List ℕ) (count : ℕ) where
     pub passed-all : count ≤ n → n ≡ numberOf (namesAt l 0 count) b
     unfolding numberOf namesAt
     passed-all h = sym (p .2 ∙ rw (let e : count - n ≡ 0 = omega arith in e) (add-zero n))
+
+-- the carried values of states by their places
+pub length-ranks : (l : List ℕ) (at n : ℕ) → length (ranksAt l at n) ≡ n
+unfolding ranksAt
+length-ranks l at zero = refl
+length-ranks l at (suc n) = ap suc (length-ranks l (at + 4) n)
+
+pub rank-at : (l : List ℕ) (at n q : ℕ) → q < n → getD (ranksAt l at n) q 0 ≡ getD l (at + 4 * q + 3) 0
+unfolding ranksAt
+rank-at l at zero q h = absurd (omega arith)
+rank-at l at (suc n) zero h = ap (λ (i : ℕ). getD l i 0) (let e : at + 3 ≡ at + 4 * 0 + 3 = omega arith in e)
+rank-at l at (suc n) (suc q) h = rank-at l (at + 4) n q (omega arith) ∙ ap (λ (i : ℕ). getD l i 0) (let e : at + 4 + 4 * q + 3 ≡ at + 4 * suc q + 3 = omega arith in e)

@@ -14,7 +14,7 @@
 --               n carried values 1 + n and its arguments"; `wordsOf` of all items
 --   sideNumber  3, 2 or 0 for the bytes of a right side: every 3 before every 2
 use Prim.Native.Nat.{ℕ, zero, suc, pred, _+_}
-use mathlib.Core.Bool.{Bool, true, false, cond, _&&_, _||_}
+use mathlib.Core.Bool.{Bool, true, false, cond, not, _&&_, _||_}
 use mathlib.Core.List.{List, [], _∷_}
 use mathlib.Core.Option.{Option, none, some}
 use lib.Dec.{eqb, leb, ltb}
@@ -41,43 +41,39 @@ abbrev pub put : Item → Option (List Item) → Option (List Item)
 put i none = none
 put i (some is) = some (i ∷ is)
 
--- an item's first byte; the rest of the bytes is read by k
-abbrev pub itemFrom : ℕ → (Wants → Option (List Item)) → Option (List Item)
-itemFrom b k =
-    elim (eqb b 16) [
-      | true ↦ k name10
-      | false ↦
-          elim (eqb b 17) [
-            | true ↦ put item11 (k first)
-            | false ↦
-                elim (eqb b 18) [
-                  | true ↦ k char12
-                  | false ↦
-                      elim (eqb b 19) [
-                        | true ↦ put item13 (k first)
-                        | false ↦
-                            elim (eqb b 20) [
-                              | true ↦ k value14
-                              | false ↦
-                                  elim (eqb b 21) [
-                                    | true ↦ k source15
-                                    | false ↦
-                                        elim (eqb b 31) [ true ↦ put item1F (k first) | false ↦ none ]
-                                  ]
-                            ]
-                      ]
-                ]
-          ]
-    ]
+-- which item a first byte tells
+pub data Kind : Type 0 where
+  is10 is11 is12 is13 is14 is15 is1F isNone : Kind
+
+abbrev pub kindOf : ℕ → Kind
+kindOf b =
+    cond (eqb b 0x10) is10
+    (cond (eqb b 0x11) is11
+    (cond (eqb b 0x12) is12
+    (cond (eqb b 0x13) is13
+    (cond (eqb b 0x14) is14
+    (cond (eqb b 0x15) is15
+    (cond (eqb b 0x1F) is1F
+    isNone))))))
+
+-- the item of a first byte; k reads the rest of the bytes
+abbrev pub itemFrom : Kind → (Wants → Option (List Item)) → Option (List Item)
+itemFrom is10 k = k name10
+itemFrom is11 k = put item11 (k first)
+itemFrom is12 k = k char12
+itemFrom is13 k = put item13 (k first)
+itemFrom is14 k = k value14
+itemFrom is15 k = k source15
+itemFrom is1F k = put item1F (k first)
+itemFrom isNone k = none
 
 -- src 01 children, 02 siblings
-abbrev pub sourceFrom : ℕ → (Source → Option (List Item)) → Option (List Item)
-sourceFrom b k =
-    elim (eqb b 1) [
-      | true ↦ k children
-      | false ↦
-          elim (eqb b 2) [ true ↦ k siblings | false ↦ none ]
-    ]
+abbrev pub sourceOf : ℕ → Option Source
+sourceOf b = cond (eqb b 1) (some children) (cond (eqb b 2) (some siblings) none)
+
+abbrev pub callFrom : Option Source → (Source → Option (List Item)) → Option (List Item)
+callFrom none k = none
+callFrom (some x) k = k x
 
 unfoldable pub items : List ℕ → Wants → Option (List Item)
 items [] first = some []
@@ -86,11 +82,11 @@ items [] char12 = none
 items [] value14 = none
 items [] source15 = none
 items [] (state15 x) = none
-items (b ∷ bs) first = itemFrom b (λ w. items bs w)
+items (b ∷ bs) first = itemFrom (kindOf b) (λ w. items bs w)
 items (b ∷ bs) name10 = put (item10 b) (items bs first)
 items (b ∷ bs) char12 = put (item12 b) (items bs first)
 items (b ∷ bs) value14 = put (item14 b) (items bs first)
-items (b ∷ bs) source15 = sourceFrom b (λ x. items bs (state15 x))
+items (b ∷ bs) source15 = callFrom (sourceOf b) (λ x. items bs (state15 x))
 items (b ∷ bs) (state15 x) = put (item15 x b) (items bs first)
 
 -- "the matched element; patterns 01 and 02 only"; "the matched character; pattern 03 only"; "Pattern 00 has no call. Pattern 03
@@ -101,6 +97,11 @@ hasElement p = eqb p 1 || eqb p 2
 abbrev pub hasSource : ℕ → Source → Bool
 hasSource p children = hasElement p
 hasSource p siblings = hasElement p || eqb p 3
+
+-- the same of a source's byte
+abbrev pub hasSome : ℕ → Option Source → Bool
+hasSome p none = false
+hasSome p (some x) = hasSource p x
 
 module _ (names : ℕ) (ranks : List ℕ) (p n : ℕ) where
   abbrev pub allowed : Item → Bool
@@ -163,7 +164,7 @@ module _ (names : ℕ) (ranks : List ℕ) (p n : ℕ) where
   judged none d s over = 3
   judged (some is) d s over =
       cond (allAllowed names ranks p n is && closed ranks is d)
-      (cond (over || (ltb 64 (s + wordsOf ranks is) || cond (few ranks is d) false true)) 2 0)
+      (cond (over || (ltb 64 (s + wordsOf ranks is) || not (few ranks is d))) 2 0)
       3
 
   unfoldable pub sideNumber : List ℕ → ℕ

@@ -4,3 +4,4 @@
 // table stand; `lookup` finds a rule's right side, and `names` a name's number.
 mod bytes;
 pub mod names;
+mod side;

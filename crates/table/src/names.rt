@@ -1,5 +1,6 @@
 // Names, compared where they stand.
-use crate::bytes::{byte_at, same_run};
+use crate::bytes::byte_at;
+use crate::bytes::same_run;
 ghost use mathlib.Core.Path.{_≡_};
 ghost use Prim.Native.Nat.{_+_, _*_, _≤_, _<_};
 ghost use lib.ListN.{length, getD};
