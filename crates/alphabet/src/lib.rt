@@ -1,5 +1,7 @@
 // The bytes of logs, tables and sheets: which may begin a name, continue one, stand as text, and be a leaf.
 // Document 01, "The log": "A table of 128 classes, one for each byte below 128".
+#![tactic(auto)]
+
 ghost use Rattle.std.specs.Prelude.{◌≡◌};
 ghost use Rattle.alphabet.specs.Classes.{class_of, name_start, name_part, is_text, is_leaf};
 

@@ -6,7 +6,7 @@
 --   to_come     the environment that events still to come make: `meaning` of the forests that they spell
 use Rattle.std.specs.Prelude.{ℕ, List, [], ◌∷◌, ◌++◌}
 use Rattle.std.proofs.Math.Option.{Option, none, some}
-use Rattle.meaning.specs.Forest.{Token, start_tag, end_tag, character, Stream}
+use Rattle.meaning.specs.Forest.{start_tag, end_tag, character, Stream}
 use Rattle.meaning.specs.Rules.{Table}
 use Rattle.meaning.specs.Value.{Sem, silent, meaning}
 use Rattle.meaning.specs.Event.{Event, spelled}

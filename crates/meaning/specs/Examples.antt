@@ -4,7 +4,7 @@
 --   sheet_log, sheet_out        the log and the sheet of the program's example
 use Rattle.std.specs.Prelude.{ℕ, zero, suc, List, [], ◌∷◌}
 use Rattle.meaning.specs.Forest.{Forest, nil, node, leaf}
-use Rattle.meaning.specs.Rules.{Source, children, siblings, Match, on_empty, on_element, on_character, Rhs, RArgs, done, element, matched, letter, matched_letter, value, call, no_arg, arg, Table}
+use Rattle.meaning.specs.Rules.{children, siblings, Match, on_empty, on_element, on_character, Rhs, done, element, matched, matched_letter, value, call, no_arg, arg, Table}
 use Rattle.meaning.specs.Event.{Event}
 
 -- "rest" is a call of the same state on the siblings; an element that holds a call on its children, then rest

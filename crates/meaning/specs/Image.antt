@@ -7,7 +7,7 @@
 --   image       τ of definition 3: state 0 on the whole forest, with ε for each carried value
 use Rattle.std.specs.Prelude.{ℕ, List, [], ◌∷◌, get_or, replicate}
 use Rattle.meaning.specs.Forest.{Forest, nil, node, leaf, beside}
-use Rattle.meaning.specs.Rules.{Source, children, siblings, Match, on_empty, on_element, on_character, Rhs, RArgs, done, element, matched, letter, matched_letter, value, call, no_arg, arg, Table}
+use Rattle.meaning.specs.Rules.{Source, children, siblings, on_empty, on_element, on_character, Rhs, RArgs, done, element, matched, letter, matched_letter, value, call, no_arg, arg, Table}
 
 -- what states and carried values are made into, for one forest
 abbrev pub Fun : Type 0

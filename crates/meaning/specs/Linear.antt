@@ -9,7 +9,7 @@
 --               on x it has, `uses j`: how often it uses the value j
 --   Linear      demand 3's class
 --   Small       what is true of every table of document 01: at most four carried values, and no right side over R words
-use Rattle.std.specs.Prelude.{ℕ, zero, suc, ◌+◌, ◌≤◌, ◌<◌, ◌≡◌}
+use Rattle.std.specs.Prelude.{ℕ, zero, suc, ◌+◌, ◌≤◌, ◌≡◌}
 use Rattle.meaning.specs.Rules.{Source, children, siblings, Match, Rhs, RArgs, done, element, matched, letter, matched_letter, value, call, no_arg, arg, Table}
 use Rattle.meaning.specs.Held.{Expr, Args, ε, opening, closing, chr, wait, ∅, also}
 use Rattle.meaning.specs.Count.{rhs_size}

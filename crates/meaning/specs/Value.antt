@@ -5,8 +5,8 @@
 --   meaning     `result`, written
 --   transformed `image`, written
 use Rattle.std.specs.Prelude.{ℕ, List, [], ◌∷◌, ◌++◌, get_or, replicate}
-use Rattle.meaning.specs.Forest.{Forest, nil, node, leaf, Token, start_tag, end_tag, character, Stream}
-use Rattle.meaning.specs.Rules.{Source, children, siblings, Match, on_empty, on_element, on_character, Rhs, RArgs, done, element, matched, letter, matched_letter, value, call, no_arg, arg, Table}
+use Rattle.meaning.specs.Forest.{Forest, nil, node, leaf, start_tag, end_tag, character, Stream}
+use Rattle.meaning.specs.Rules.{Source, children, siblings, on_empty, on_element, on_character, Rhs, RArgs, done, element, matched, letter, matched_letter, value, call, no_arg, arg, Table}
 
 abbrev pub Sem : Type 0
 Sem = ℕ → List Stream → Stream
