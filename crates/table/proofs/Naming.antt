@@ -11,7 +11,6 @@ use lib.Dec.{eqb}
 use Rattle.meaning.specs.Denoted.{at}
 use Rattle.table.specs.Format.{same_bytes, number_of}
 use Rattle.table.specs.Names.{name_at, names_at, ranks_at}
-use Rattle.table.specs.Rules.{count}
 
 -- lists of other lengths differ
 pub other_length : (x y : List ℕ) → (length x ≡ length y → ⊥) → false ≡ same_bytes x y

@@ -11,12 +11,7 @@ use lib.Seq.{slice, slice_empty}
 use lib.Dec.{leb, ltb, T}
 use borrow.Author.Tests.{le-ltb, lt-ltb, le-leb, lt-leb, eq-eqb, ne_eqb, ltb-true, ltb-false}
 use Rattle.alphabet.specs.Classes.{is_leaf}
-use Rattle.meaning.specs.Count.{size}
-use Rattle.meaning.specs.Denoted.{at}
-use Rattle.meaning.specs.Held.{before}
 use Rattle.meaning.specs.Rules.{Source}
-use Rattle.meaning.specs.Value.{from}
-use Rattle.table.specs.Format.{stop}
 use Rattle.table.specs.Side.{allowed, has_element, Item, item10, item11, item12, item13, item14, item15, item1F, first, state15, put, source_of, call_from, items, has_some, all_allowed, owed, due, closed, few, words, words_of, judged, side_number}
 use Rattle.table.specs.Turns.{ranks_of, Inside, judged_from, Taken, verdict}
 use Rattle.table.proofs.Naming.{length-ranks, rank-at}

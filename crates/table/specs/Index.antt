@@ -11,14 +11,13 @@
 --   side_from, side_to   where the right side of the rule whose field begins at a place begins and ends
 --   Indexed     the index is that of the table l, and l is accepted
 use Rattle.std.specs.Prelude.{ℕ, zero, suc, ◌+◌, ◌*◌, ◌≤◌, ◌<◌, ◌≡◌, cond, List, [], eqb, ltb, length, get_or}
-use Rattle.std.proofs.Math.Option.{Option, none, some}
 use Rattle.std.proofs.Math.Seq.{slice}
 use Rattle.alphabet.specs.Classes.{is_leaf}
 use Rattle.meaning.specs.Rules.{Match, on_empty, on_element, on_character}
 use Rattle.meaning.specs.Valid.{Vocabulary}
-use Rattle.table.specs.Format.{Contents, Read, read}
+use Rattle.table.specs.Format.{Contents, read}
 use Rattle.table.specs.Names.{name_at}
-use Rattle.table.specs.Rules.{rule_for, side_for}
+use Rattle.table.specs.Rules.{side_for}
 
 abbrev pub index_words : ℕ
 index_words = 8514

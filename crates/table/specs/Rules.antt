@@ -9,14 +9,14 @@
 --   vocabulary  what the table lets its expressions mention
 --   largest     R, "the largest size in the table"; 0 where there is no rule
 --   Owes        no more than 8 ends are owed at any point of a right side, with d owed before it
-use Rattle.std.specs.Prelude.{ℕ, zero, suc, ◌+◌, max, ◌≤◌, ◌<◌, Bool, true, false, cond, ◌&&◌, List, [], ◌∷◌, eqb, length, get_or}
+use Rattle.std.specs.Prelude.{ℕ, zero, suc, ◌+◌, max, ◌≤◌, ◌<◌, Bool, true, false, ◌&&◌, List, [], ◌∷◌, eqb, length, get_or}
 use Rattle.std.proofs.Math.Option.{Option, none, some}
 use Rattle.alphabet.specs.Classes.{is_leaf}
-use Rattle.meaning.specs.Rules.{Source, children, siblings, Match, on_empty, on_element, on_character, Rhs, RArgs, done, element, matched, letter, matched_letter, value, call, no_arg, arg, Table}
+use Rattle.meaning.specs.Rules.{Match, on_empty, on_element, on_character, Rhs, RArgs, done, element, matched, letter, matched_letter, value, call, no_arg, arg, Table}
 use Rattle.meaning.specs.Count.{rhs_size}
 use Rattle.meaning.specs.Valid.{Vocabulary}
 use Rattle.table.specs.Side.{Item, item10, item11, item12, item13, item14, item15, item1F, items, first}
-use Rattle.table.specs.Format.{Rule, Contents, Read, read}
+use Rattle.table.specs.Format.{Rule, Contents, read}
 
 -- n arguments, from the right sides f 0, f 1, ..
 unfoldable pub args_of : ℕ → (ℕ → Rhs) → RArgs

@@ -13,7 +13,7 @@
 --   words       the size of an item: "an element 2 and its content; a character 1; a carried value 0; a call of a state with
 --               n carried values 1 + n and its arguments"; `words_of` of all items
 --   side_number  3, 2 or 0 for the bytes of a right side: every 3 before every 2
-use Rattle.std.specs.Prelude.{ℕ, zero, suc, pred, ◌+◌, Bool, true, false, cond, not, ◌&&◌, ◌||◌, List, [], ◌∷◌, eqb, leb, ltb, length, get_or}
+use Rattle.std.specs.Prelude.{ℕ, suc, pred, ◌+◌, Bool, true, false, cond, not, ◌&&◌, ◌||◌, List, [], ◌∷◌, eqb, leb, ltb, length, get_or}
 use Rattle.std.proofs.Math.Option.{Option, none, some}
 use Rattle.alphabet.specs.Classes.{is_leaf}
 use Rattle.meaning.specs.Rules.{Source, children, siblings}

@@ -5,7 +5,7 @@
 --   judged_from  the number of the right side whose rest begins at a place, with d ends owed, s words before, and `over`
 --   Taken       what one turn says: refused, and then the whole is 3; or taken, and then the rest decides
 --   verdict     what the end of a right side comes to
-use Rattle.std.specs.Prelude.{ℕ, ◌+◌, ◌≤◌, ◌<◌, ◌≡◌, Bool, true, false, cond, not, ◌||◌, List, eqb, ltb, length, get_or}
+use Rattle.std.specs.Prelude.{ℕ, ◌+◌, ◌≤◌, ◌<◌, ◌≡◌, Bool, cond, ◌||◌, List, eqb, ltb, length, get_or}
 use Rattle.std.proofs.Math.Seq.{slice}
 use Rattle.table.specs.Side.{items, first, judged}
 use Rattle.table.specs.Names.{ranks_at}

@@ -13,7 +13,7 @@ use alphabet::is_leaf;
 
 // What the items of a rule may mention: names, states (the first one's field begins at `base`), the rule's pattern, and the
 // carried values of its state.
-#[derive(Drop)]
+#[derive(Clone, Copy)]
 pub struct Scope {
     pub names: usize,
     pub states: usize,
@@ -23,7 +23,7 @@ pub struct Scope {
 }
 
 // One item: its bytes, 0 where it is refused, the ends owed after it, and its words.
-#[derive(Drop)]
+#[derive(Clone, Copy)]
 pub struct Turn {
     pub size: usize,
     pub owed: usize,
