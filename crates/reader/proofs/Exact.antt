@@ -3,7 +3,7 @@
 --   Means       what a result says of the bytes: whole, they begin with what was found; cut, they are the beginning of
 --               something allowed and not all of it; bad, and with whatever bytes behind them they stay bad
 --   over_means  a scan behind fixed bytes; `or_means`: one scan, or else another
-use Prim.Native.Nat.{ℕ, suc, ◌+◌, ◌≤◌}
+use Prim.Native.Nat.{ℕ, suc, ◌+◌}
 use mathlib.Core.Path.{◌≡◌, refl, sym, ap, ◌∙◌, subst}
 use mathlib.Core.List.{List, [], ◌∷◌, ◌++◌, append_assoc, append-nil}
 use native.Mathlib.Omega.{arith}

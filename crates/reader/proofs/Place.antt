@@ -4,7 +4,7 @@
 --   Agreed      a word and the bytes agree up to k
 use Prim.Native.Nat.{ℕ, zero, suc, ◌+◌, ◌-◌, ◌≤◌, ◌<◌}
 use mathlib.Core.Path.{◌≡◌, refl, sym, ap, ap₂, ◌∙◌}
-use mathlib.Core.Bool.{Bool, true, false, cond}
+use mathlib.Core.Bool.{true, false}
 use mathlib.Core.List.{List, [], ◌∷◌, ◌++◌, append_assoc}
 use native.Mathlib.Numerals.{add-one}
 use native.Mathlib.Omega.{arith}
@@ -18,7 +18,6 @@ use Rattle.reader.proofs.Scan.{name_front}
 use Rattle.alphabet.specs.Classes.{name_start, name_part}
 use Rattle.reader.specs.declared.name.NameEnd.{NameEnd}
 use Rattle.reader.specs.declared.name.NameEnd.TheVariants.{At, Cut, Bad}
-use Rattle.reader.specs.declared.Found.{Found}
 use Rattle.reader.specs.declared.Found.TheVariants.{Character, Refused}
 use Rattle.reader.specs.Place.{end_at, word_found}
 use Rattle.reader.specs.Scan.{Scan, whole, cut, bad, over, name_rest, scan_name, scan_word}

@@ -1,8 +1,8 @@
 -- The scan is exact: it finds the allowed form at the front of bytes, and says cut exactly of the beginnings of allowed forms. Assumes nothing.
 use Prim.Native.Nat.{ℕ, zero, suc, ◌≤◌, ◌<◌}
-use mathlib.Core.Path.{◌≡◌, refl, sym, ap, ◌∙◌, subst}
+use mathlib.Core.Path.{◌≡◌, refl, sym, ap, subst}
 use mathlib.Core.Bool.{Bool, true, false, cond, ◌&&◌}
-use mathlib.Core.List.{List, [], ◌∷◌, ◌++◌, append_assoc, append-nil}
+use mathlib.Core.List.{List, [], ◌∷◌, ◌++◌}
 use native.Mathlib.Omega.{arith}
 use borrow.Author.Tests.{eqb-true, ne_eqb, lt-ltb, ltb-true}
 use lib.Dec.{T, eqb, ltb}
@@ -10,7 +10,7 @@ use lib.ListN.{length}
 use Rattle.alphabet.specs.Classes.{name_start, name_part, is_text}
 use Rattle.table.specs.Format.{all_parts, is_name}
 use Rattle.reader.specs.Form.{Reference, lt, gt, amp, quot, apos, letters, Form, start_of, end_of, text_of, ref_of, spelling, Allowed}
-use Rattle.reader.specs.Scan.{Scan, whole, cut, bad, over, or_else, name_rest, scan_name, scan_tag, scan_word, scan_among, scan_reference, scan}
+use Rattle.reader.specs.Scan.{Scan, whole, cut, bad, over, name_rest, scan_name, scan_tag, scan_word, scan_among, scan_reference, scan}
 use Rattle.reader.proofs.Exact.{Means, over_means, or_means}
 
 both : (a b : Bool) → T (a && b) → (a ≡ true) × T b

@@ -1,6 +1,8 @@
 // The first event in offered bytes, with the table's names, and how many bytes it took; or 4, 11 or 5.
 // Document 01, "The log": "An event is offered as bytes: the first event in them is taken and the answer says how many bytes it
 // took." Nothing behind that event is looked at.
+#![tactic(auto)]
+
 mod name;
 mod reference;
 mod tag;
