@@ -6,7 +6,7 @@ ghost use Rattle.held.specs.Skip.{Skipped, Stands};
 use crate::check::owed_after;
 
 // From `from` up to `to`, that place not included.
-#[derive(Drop)]
+#[derive(Clone, Copy)]
 pub struct Span {
     pub from: usize,
     pub to: usize,

@@ -19,7 +19,7 @@ pub const NAME: u8 = 5;
 pub const CUT: u8 = 11;
 
 // An event with the number of its name, or its character, and the bytes taken; or the number of a refusal.
-#[derive(Drop)]
+#[derive(Clone, Copy)]
 pub enum Found {
     Start(u8, usize),
     End(u8, usize),

@@ -7,7 +7,7 @@ ghost use Rattle.reader.specs.Scan.{scan_name};
 const LONGEST: usize = 32;
 
 // Where a name ends: at its `>`; or the bytes end inside it; or it is none.
-#[derive(Drop)]
+#[derive(Clone, Copy)]
 pub enum NameEnd {
     At(usize),
     Cut,

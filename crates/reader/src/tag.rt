@@ -9,7 +9,7 @@ use crate::name::{NameEnd, name_end};
 use crate::{BYTE, CUT, Found, NAME};
 
 // The number of a tag's name, and how many bytes the tag has; or the number of a refusal.
-#[derive(Drop)]
+#[derive(Clone, Copy)]
 pub enum Known {
     Name(u8, usize),
     Not(u8),
