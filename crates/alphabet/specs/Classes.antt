@@ -5,8 +5,10 @@
 --   is_text      "Text bytes: 9, 10, 13 and 32 to 126, but not `<`, `>` or a bare `&`"
 --   is_leaf      the characters that can be leaves: text bytes, and `<`, `>`, `&`, which the log writes as references. This is
 --               the one set of leaf characters: the table's check, the reader, the writer and the record's check cite it
---   class_of     the four as one number, an entry of the table of classes
-use Rattle.std.specs.Prelude.{ℕ, ◌+◌, Bool, cond, not, ◌&&◌, ◌||◌, eqb, leb}
+--   class_of     the four as one class, an entry of the table of classes: each class is all that the ones before it are
+use Rattle.std.specs.Prelude.{ℕ, Bool, cond, not, ◌&&◌, ◌||◌, eqb, leb}
+use Rattle.alphabet.specs.declared.Class.{Class}
+use Rattle.alphabet.specs.declared.Class.TheVariants.{Never, Markup, Text, Inside, Front}
 
 abbrev pub between : ℕ → ℕ → ℕ → Bool
 between a z b = leb a b && leb b z
@@ -33,5 +35,5 @@ is_text b = (eqb b 9 || (eqb b 10 || (eqb b 13 || between 32 126 b))) && not (is
 unfoldable pub is_leaf : ℕ → Bool
 is_leaf b = eqb b 9 || (eqb b 10 || (eqb b 13 || between 32 126 b))
 
-unfoldable pub class_of : ℕ → ℕ
-class_of b = cond (name_start b) 1 0 + cond (name_part b) 2 0 + cond (is_text b) 4 0 + cond (is_leaf b) 8 0
+unfoldable pub class_of : ℕ → Class
+class_of b = cond (name_start b) Front (cond (name_part b) Inside (cond (is_text b) Text (cond (is_leaf b) Markup Never)))

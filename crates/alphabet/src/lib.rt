@@ -1,68 +1,78 @@
 // The bytes of logs, tables and sheets: which may begin a name, continue one, stand as text, and be a leaf.
 // Document 01, "The log": "A table of 128 classes, one for each byte below 128".
-#![tactic(auto)]
+#![tactic(auto, using(crate::proofs::Classes::class_laws))]
 
 ghost use Rattle.std.specs.Prelude.{◌≡◌};
 ghost use Rattle.alphabet.specs.Classes.{class_of, name_start, name_part, is_text, is_leaf};
 
-// 1 begins a name, 2 continues one, 4 stands as text, 8 is a leaf that can be written.
-const CLASSES: [u8; 128] = [
-    0, 0, 0, 0, 0, 0, 0, 0, 0, 12, // 9: tab
-    12, // 10: line feed
-    0, 0, 12, // 13: carriage return
-    0, 0, 0, 0, 0, 0, 0, 0, 0, 0, 0, 0, 0, 0, 0, 0, 0, 0, 12, // 32: space
-    12, 12, 12, 12, 12, 8, // 38: &
-    12, 12, 12, 12, 12, 12, 14, // 45: -
-    14, // 46: .
-    12, 14, // 48: 0
-    14, 14, 14, 14, 14, 14, 14, 14, 14, 12, 12, 8, // 60: <
-    12, 8, // 62: >
-    12, 12, 15, // 65: A
-    15, 15, 15, 15, 15, 15, 15, 15, 15, 15, 15, 15, 15, 15, 15, 15, 15, 15, 15, 15, 15, 15, 15, 15,
-    15, 12, // 91: [
-    12, 12, 12, 15, // 95: _
-    12, 15, // 97: a
-    15, 15, 15, 15, 15, 15, 15, 15, 15, 15, 15, 15, 15, 15, 15, 15, 15, 15, 15, 15, 15, 15, 15, 15,
-    15, 12, // 123: {
-    12, 12, 12, 0, // 127
-];
+use Class::{Front, Inside, Markup, Never, Text};
 
-fn wide(b: u8) -> usize
-    ensures { result ≡ b }
-{
-    b as usize
+// What a byte may be: all that the classes before its own may be, and one thing more.
+#[derive(Clone, Copy, PartialEq, PartialOrd)]
+enum Class {
+    // nothing
+    Never,
+    // a leaf, written as a reference
+    Markup,
+    // a leaf that stands as text
+    Text,
+    // a name's further byte
+    Inside,
+    // a name's first byte
+    Front,
 }
 
-fn class_of(b: u8) -> u8
+const CLASSES: [Class; 128] = [
+    Never, Never, Never, Never, Never, Never, Never, Never, Never, Text, // 9: tab
+    Text, // 10: line feed
+    Never, Never, Text, // 13: carriage return
+    Never, Never, Never, Never, Never, Never, Never, Never, Never, Never, Never, Never, Never,
+    Never, Never, Never, Never, Never, Text, // 32: space
+    Text, Text, Text, Text, Text, Markup, // 38: &
+    Text, Text, Text, Text, Text, Text, Inside, // 45: -
+    Inside, // 46: .
+    Text, Inside, // 48: 0
+    Inside, Inside, Inside, Inside, Inside, Inside, Inside, Inside, Inside, Text, Text, Markup, // 60: <
+    Text, Markup, // 62: >
+    Text, Text, Front, // 65: A
+    Front, Front, Front, Front, Front, Front, Front, Front, Front, Front, Front, Front, Front,
+    Front, Front, Front, Front, Front, Front, Front, Front, Front, Front, Front, Front, Text, // 91: [
+    Text, Text, Text, Front, // 95: _
+    Text, Front, // 97: a
+    Front, Front, Front, Front, Front, Front, Front, Front, Front, Front, Front, Front, Front,
+    Front, Front, Front, Front, Front, Front, Front, Front, Front, Front, Front, Front, Text, // 123: {
+    Text, Text, Text, Never, // 127
+];
+
+fn class_of(b: u8) -> Class
     ensures { result ≡ class_of b }
 {
-    let i = wide(b);
-    if i < 128 {
-        return CLASSES[i];
+    match CLASSES.get(usize::from(b)) {
+        Some(class) => *class,
+        None => Never,
     }
-    0
 }
 
 pub fn is_name_start(b: u8) -> bool
     ensures { result ≡ name_start b }
 {
-    class_of(b) % 2 == 1
+    class_of(b) >= Front
 }
 
 pub fn is_name_part(b: u8) -> bool
     ensures { result ≡ name_part b }
 {
-    class_of(b) / 2 % 2 == 1
+    class_of(b) >= Inside
 }
 
 pub fn is_text(b: u8) -> bool
     ensures { result ≡ is_text b }
 {
-    class_of(b) / 4 % 2 == 1
+    class_of(b) >= Text
 }
 
 pub fn is_leaf(b: u8) -> bool
     ensures { result ≡ is_leaf b }
 {
-    class_of(b) / 8 % 2 == 1
+    class_of(b) >= Markup
 }

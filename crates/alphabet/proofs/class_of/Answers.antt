@@ -1,12 +1,9 @@
--- `alphabet::class_of` meets its contract: the table of classes below 128, and no class from there on. Assumes nothing.
-use Rattle.std.proofs.Common.{sym, ap, ◌∙◌, arith}
+-- `alphabet::class_of` meets its contract: below 128 the class is the byte's entry. Assumes nothing.
+use Rattle.std.proofs.Common.{sym, ◌∙◌, ap}
+use Rattle.std.proofs.lemmas.Bool.{ltb-true}
 use Rattle.alphabet.specs.Classes.{class_of}
-use Rattle.alphabet.proofs.Classes.{classes, class_low, class_high}
+use Rattle.alphabet.proofs.Classes.{class_low}
 use Rattle.alphabet.proofs.class_of.Goals as goal
 
-pub returns-then-i-lt128 : goal.returns-then-i-lt128
-unfolding classes
-returns-then-i-lt128 c = class_low c.wide-i.result c.if-i-lt128.true ∙ ap class_of c.wide-i.ensures
-
-pub returns : goal.returns
-returns c = sym (class_high c.args.b (omega arith))
+pub returns-in-Some : goal.returns-in-Some
+returns-in-Some c = c.in-Some.ensures.lookup.1 ∙ class_low c.from.result c.in-Some.class.now (ltb-true _ _ (sym c.in-Some.ensures.lookup.0)) ∙ ap class_of c.from.ensures
