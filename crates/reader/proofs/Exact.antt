@@ -1,13 +1,10 @@
--- What a scan byte by byte must do to be exact, and what follows of it: `more`, `cut-exact`, `bad-exact`. Assumes nothing.
+-- What a scan byte by byte must do to be exact, and what follows of it: `more`, `front_whole` and `whole_front`, `part_cut` and
+-- `cut_part`, `neither_bad`. Assumes nothing.
 --
 --   Means       what a result says of the bytes: whole, they begin with what was found; cut, they are the beginning of
 --               something allowed and not all of it; bad, and with whatever bytes behind them they stay bad
 --   over_means  a scan behind fixed bytes; `or_means`: one scan, or else another
-use Prim.Native.Nat.{ℕ, suc, ◌+◌}
-use mathlib.Core.Path.{◌≡◌, refl, sym, ap, ◌∙◌, subst}
-use mathlib.Core.List.{List, [], ◌∷◌, ◌++◌, append_assoc, append-nil}
-use native.Mathlib.Omega.{arith}
-use lib.ListN.{length, length-append}
+use Rattle.std.proofs.Common.{ℕ, suc, ◌+◌, ◌≡◌, refl, sym, ap, ◌∙◌, subst, List, [], ◌∷◌, ◌++◌, append_assoc, append-nil, arith, length, length-append}
 use Rattle.reader.specs.Scan.{Scan, whole, cut, bad, over, or_else}
 
 module _ {A : Type 0} (spell : A → List ℕ) (ok : A → Type 0) where

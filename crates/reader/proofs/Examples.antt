@@ -1,7 +1,5 @@
 -- The table of 4 against 11, computed. Assumes nothing.
-use Prim.Native.Nat.{ℕ}
-use mathlib.Core.Path.{◌≡◌, refl}
-use mathlib.Core.List.{List, map}
+use Rattle.std.proofs.Common.{ℕ, ◌≡◌, refl, List, map}
 use Rattle.alphabet.specs.Classes.{name_start, name_part, is_text}
 use Rattle.table.specs.Format.{same_bytes, number_of}
 use Rattle.reader.specs.Examples.{Case, refused, two_names, cut_cases, bad_cases, unknown_cases, taken_cases}

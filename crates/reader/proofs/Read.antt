@@ -8,42 +8,37 @@
 --   read_taken                          what is taken lies in the bytes, and is not nothing
 --   read_known                          an event's name is one of the names, its character a leaf
 --   read-once                           no second answer fits
-use Prim.Native.Nat.{ℕ, ◌+◌, ◌≤◌, ◌<◌}
-use mathlib.Core.Path.{◌≡◌, refl, sym, ap, ◌∙◌}
-use mathlib.Core.List.{List, [], ◌∷◌, ◌++◌}
-use mathlib.Core.Bool.{Bool, true, false, cond, not, ◌&&◌, ◌||◌}
-use mathlib.Core.Logic.{⊎_elim, ◌⊎◌, inl, inr}
-use native.Mathlib.Omega.{arith}
-use lib.ListN.{get_or, length, drop, length-append}
-use lib.Dec.{eqb, ltb, T}
-use borrow.Author.Tests.{ne_eqb, ltb-true, ltb-false}
+use Rattle.std.proofs.lemmas.List.{take_rest}
+use Rattle.std.proofs.Common.{◌≡◌, ℕ, ◌+◌, ◌≤◌, ◌<◌, refl, sym, ap, ◌∙◌, Bool, true, false, cond, not, ◌&&◌, ◌||◌, List, [], ◌∷◌, ◌++◌, ◌⊎◌, inl, inr, ⊎_elim, length, get_or, drop, length-append, T, Result, Ok, Err, arith, take, ◌-◌}
+use Rattle.std.proofs.Math.Dec.{eqb, ltb}
+use Rattle.std.proofs.lemmas.Bool.{ne_eqb, ltb-true, ltb-false}
 use Rattle.alphabet.specs.Classes.{between, is_markup, is_text, is_leaf}
 use Rattle.table.specs.Format.{number_of}
+use Rattle.reader.specs.declared.found.Event.{Event}
+use Rattle.reader.specs.declared.found.Event.TheVariants.{Start, End, Character}
+use Rattle.reader.specs.declared.found.Found.{Found}
+use Rattle.reader.specs.declared.found.Refusal
+use Rattle.reader.specs.declared.found.Refusal.{Refusal}
+use Rattle.reader.specs.declared.found.Refusal.TheVariants.{Byte, Name}
 use Rattle.reader.specs.Form.{Begins, Reference, lt, gt, amp, quot, apos, Form, start_of, end_of, text_of, ref_of, spelling, Allowed, Cut}
 use Rattle.reader.specs.Read.{number, taken, named, found_of, answered, read_event}
 use Rattle.reader.specs.Scan.{whole, cut, Scan, bad, over, scan_tag, scan_reference, scan}
 use Rattle.reader.proofs.Exact.{Front, Part, more, front_whole, part_cut, cut_part, whole_front, neither_bad}
 use Rattle.reader.proofs.Names.{number_at, number_least}
 use Rattle.reader.proofs.Scan.{scan_finds, scan_means}
-use Rattle.reader.specs.declared.Found.{Found}
-use Rattle.reader.specs.declared.Found.TheVariants.{Start, End, Character, Refused}
 
 -- the first byte tells what is read
 module _ (names : List (List ℕ)) where
-  pub read_none : (l : List ℕ) → length l ≡ 0 → Refused 11 ≡ read_event names l
+  pub read_none : (l : List ℕ) → length l ≡ 0 → Err Refusal.TheVariants.Cut ≡ read_event names l
   unfolding read_event answered scan
   read_none [] h = refl
   read_none (b ∷ l) h = absurd (omega arith)
 
-  pub read_text : (l : List ℕ) → (length l ≡ 0 → ⊥) → is_text (get_or l 0 0) ≡ true → Character (get_or l 0 0) 1 ≡ read_event names l
-  unfolding read_event answered found_of scan
-  read_text [] h e = absurd (h refl)
-  read_text (b ∷ l) h e = rw e
-
-  pub read_tag : (l : List ℕ) → (length l ≡ 0 → ⊥) → is_text (get_or l 0 0) ≡ false → get_or l 0 0 ≡ 60 → (f : Found) → f ≡ answered names (scan_tag (drop 1 l)) → f ≡ read_event names l
-  unfolding read_event scan
-  read_tag [] h e b f g = absurd (h refl)
-  read_tag (b₁ ∷ l) h e b f g = g ∙ rw (e, b)
+  -- what stands behind a `<`
+  pub read_tag : (l : List ℕ) (r : Result Found Refusal) → 1 ≤ length l → get_or l 0 0 ≡ 60 → r ≡ answered names (scan_tag (take (length l - 1) (drop 1 l))) → r ≡ read_event names l
+  unfolding read_event scan is_text
+  read_tag [] r h b e = absurd (omega arith)
+  read_tag (b₁ ∷ l) r h b e = e ∙ rw (take_rest (b₁ ∷ l) 1, b)
 
   same_answer : (s : Scan Reference) → answered [] (over ref_of s) ≡ answered names (over ref_of s)
   unfolding answered found_of
@@ -51,14 +46,20 @@ module _ (names : List (List ℕ)) where
   same_answer cut = refl
   same_answer bad = refl
 
-  pub read_reference : (l : List ℕ) → (length l ≡ 0 → ⊥) → is_text (get_or l 0 0) ≡ false → get_or l 0 0 ≡ 38 → (f : Found) → f ≡ answered [] (over ref_of (scan_reference (drop 1 l))) → f ≡ read_event names l
-  unfolding read_event scan
-  read_reference [] h e b f g = absurd (h refl)
-  read_reference (b₁ ∷ l) h e b f g = g ∙ same_answer (scan_reference l) ∙ rw (e, b)
+  -- what stands behind a `&`
+  pub read_reference : (l : List ℕ) (r : Result Found Refusal) → 1 ≤ length l → get_or l 0 0 ≡ 38 → r ≡ answered [] (over ref_of (scan_reference (take (length l - 1) (drop 1 l)))) → r ≡ read_event names l
+  unfolding read_event scan is_text
+  read_reference [] r h b e = absurd (omega arith)
+  read_reference (b₁ ∷ l) r h b e = e ∙ same_answer (scan_reference (take (length (b₁ ∷ l) - 1) (drop 1 (b₁ ∷ l)))) ∙ rw (take_rest (b₁ ∷ l) 1, b)
 
-  pub read_other : (l : List ℕ) → (length l ≡ 0 → ⊥) → is_text (get_or l 0 0) ≡ false → (get_or l 0 0 ≡ 60 → ⊥) → (get_or l 0 0 ≡ 38 → ⊥) → Refused 4 ≡ read_event names l
+  pub read_text : (l : List ℕ) → 1 ≤ length l → is_text (get_or l 0 0) ≡ true → ◌≡◌ {A = Result Found Refusal} (Ok (record { event = Character (get_or l 0 0); taken = 1 })) (read_event names l)
+  unfolding read_event answered found_of scan
+  read_text [] h e = absurd (omega arith)
+  read_text (b ∷ l) h e = rw e
+
+  pub read_other : (l : List ℕ) → 1 ≤ length l → is_text (get_or l 0 0) ≡ false → (get_or l 0 0 ≡ 60 → ⊥) → (get_or l 0 0 ≡ 38 → ⊥) → Err Byte ≡ read_event names l
   unfolding read_event answered scan
-  read_other [] h e b d = absurd (h refl)
+  read_other [] h e b d = absurd (omega arith)
   read_other (b₁ ∷ l) h e b d = rw (e, ne_eqb b₁ 60 b, ne_eqb b₁ 38 d)
 
 front_of : {bs : List ℕ} → Begins bs → Front spelling Allowed bs
@@ -81,11 +82,14 @@ Unknown names (text_of b) = ⊥
 Unknown names (ref_of r) = ⊥
 
 -- an event's name is one of the names, its character a leaf
-abbrev pub Sound : List (List ℕ) → Found → Type 0
-Sound names (Start n k) = n < length names
-Sound names (End n k) = n < length names
-Sound names (Character c k) = T (is_leaf c)
-Sound names (Refused r) = Unit {0}
+abbrev pub Known : List (List ℕ) → Event → Type 0
+Known names (Start n) = n < length names
+Known names (End n) = n < length names
+Known names (Character c) = T (is_leaf c)
+
+abbrev pub Sound : List (List ℕ) → Result Found Refusal → Type 0
+Sound names (Ok f) = Known names f.event
+Sound names (Err r) = Unit {0}
 
 first : (x y : Bool) → T (x && y) → T x
 first true y t = tt
@@ -102,16 +106,16 @@ spelled_some (text_of b) = omega arith
 spelled_some (ref_of r) = omega arith
 
 abbrev starting : List ℕ → ℕ → Found
-starting n m = Start m (length (spelling (start_of n)))
+starting n m = record { event = Start m; taken = length (spelling (start_of n)) }
 
 abbrev ending : List ℕ → ℕ → Found
-ending n m = End m (length (spelling (end_of n)))
+ending n m = record { event = End m; taken = length (spelling (end_of n)) }
 
 module _ (names : List (List ℕ)) where
-  named-case : (n : List ℕ) (found : ℕ → Found) (P : Found → Type 0) → (number_of names n < length names → P (found (number_of names n))) → (length names ≤ number_of names n → P (Refused 5)) → P (named names n found)
+  named-case : (n : List ℕ) (found : ℕ → Found) (P : Result Found Refusal → Type 0) → (number_of names n < length names → P (Ok (found (number_of names n)))) → (length names ≤ number_of names n → P (Err Name)) → P (named names n found)
   named-case n found P k u = go (ltb (number_of names n) (length names)) refl
     where
-      go : (t : Bool) → ltb (number_of names n) (length names) ≡ t → P (cond t (found (number_of names n)) (Refused 5))
+      go : (t : Bool) → ltb (number_of names n) (length names) ≡ t → P (cond t (Ok (found (number_of names n))) (Err Name))
       go true e = k (ltb-true (number_of names n) (length names) e)
       go false e = u (ltb-false (number_of names n) (length names) e)
 
@@ -136,10 +140,10 @@ module _ (names : List (List ℕ)) where
   found_unknown (text_of b) = λ e. let z : ◌≡◌ {A = ℕ} 0 5 = e in omega arith
   found_unknown (ref_of r) = λ e. let z : ◌≡◌ {A = ℕ} 0 5 = e in omega arith
 
-  unknown_found : (f : Form) → Unknown names f → found_of names f ≡ Refused 5
+  unknown_found : (f : Form) → Unknown names f → found_of names f ≡ Err Name
   unfolding found_of
-  unknown_found (start_of n) u = named-case n (starting n) (λ f. f ≡ Refused 5) (λ h. absurd (u (number_of names n) h (number_at n names h))) (λ h. refl)
-  unknown_found (end_of n) u = named-case n (ending n) (λ f. f ≡ Refused 5) (λ h. absurd (u (number_of names n) h (number_at n names h))) (λ h. refl)
+  unknown_found (start_of n) u = named-case n (starting n) (λ f. f ≡ Err Name) (λ h. absurd (u (number_of names n) h (number_at n names h))) (λ h. refl)
+  unknown_found (end_of n) u = named-case n (ending n) (λ f. f ≡ Err Name) (λ h. absurd (u (number_of names n) h (number_at n names h))) (λ h. refl)
   unknown_found (text_of b) u = absurd u
   unknown_found (ref_of r) u = absurd u
 
@@ -166,11 +170,11 @@ module _ (names : List (List ℕ)) where
     unfolding read_event answered front_of
     read-begins b = ap (answered names) (front_whole spelling Allowed scan scan_finds scan_means bs (front_of b))
 
-    pub read-cut : Cut bs → read_event names bs ≡ Refused 11
+    pub read-cut : Cut bs → read_event names bs ≡ Err Refusal.TheVariants.Cut
     unfolding read_event answered
     read-cut c = ap (answered names) (part_cut spelling Allowed scan scan_finds scan_means bs (part_of c))
 
-    pub read-bad : (Begins bs → ⊥) → (Cut bs → ⊥) → read_event names bs ≡ Refused 4
+    pub read-bad : (Begins bs → ⊥) → (Cut bs → ⊥) → read_event names bs ≡ Err Byte
     unfolding read_event answered
     read-bad f p = ap (answered names) (neither_bad spelling Allowed scan scan_finds scan_means bs (λ x. f (of_front bs x)) (λ x. p (of_part bs x)))
 
@@ -208,7 +212,7 @@ module _ (names : List (List ℕ)) where
         let b : Begins bs = begins-read (λ e. let z : ◌≡◌ {A = ℕ} 5 4 = sym n ∙ e in omega arith) (λ e. let z : ◌≡◌ {A = ℕ} 5 11 = sym n ∙ e in omega arith) in
         (b, found_unknown b.form (sym (ap number (read-begins b)) ∙ n))
 
-    pub read_unknown : (b : Begins bs) → Unknown names b.form → read_event names bs ≡ Refused 5
+    pub read_unknown : (b : Begins bs) → Unknown names b.form → read_event names bs ≡ Err Name
     read_unknown b u = read-begins b ∙ unknown_found b.form u
 
     pub read_more : (c : List ℕ) → (number (read_event names bs) ≡ 11 → ⊥) → read_event names (bs ++ c) ≡ read_event names bs
@@ -233,5 +237,8 @@ module _ (names : List (List ℕ)) where
     read_known = sound_of (scan bs) refl
 
     -- what `read_event` ensures is one answer
-    pub read-once : (r s : Found) → r ≡ read_event names bs → s ≡ read_event names bs → r ≡ s
+    pub read-once : (r s : Result Found Refusal) → r ≡ read_event names bs → s ≡ read_event names bs → r ≡ s
     read-once r s e f = cc
+
+-- what the check uses to prove `read_event`
+pub ruleset event_laws = (read_none, read_tag, read_reference, read_text, read_other)

@@ -1,12 +1,7 @@
 -- The scan is exact: it finds the allowed form at the front of bytes, and says cut exactly of the beginnings of allowed forms. Assumes nothing.
-use Prim.Native.Nat.{ℕ, zero, suc, ◌≤◌, ◌<◌}
-use mathlib.Core.Path.{◌≡◌, refl, sym, ap, subst}
-use mathlib.Core.Bool.{Bool, true, false, cond, ◌&&◌}
-use mathlib.Core.List.{List, [], ◌∷◌, ◌++◌}
-use native.Mathlib.Omega.{arith}
-use borrow.Author.Tests.{eqb-true, ne_eqb, lt-ltb, ltb-true}
-use lib.Dec.{T, eqb, ltb}
-use lib.ListN.{length}
+use Rattle.std.proofs.Common.{ℕ, zero, suc, ◌≤◌, ◌<◌, ◌≡◌, refl, sym, ap, subst, Bool, true, false, cond, ◌&&◌, List, [], ◌∷◌, ◌++◌, arith, T, length}
+use Rattle.std.proofs.lemmas.Bool.{eqb-true, ne_eqb, lt-ltb, ltb-true}
+use Rattle.std.proofs.Math.Dec.{eqb, ltb}
 use Rattle.alphabet.specs.Classes.{name_start, name_part, is_text}
 use Rattle.table.specs.Format.{all_parts, is_name}
 use Rattle.reader.specs.Form.{Reference, lt, gt, amp, quot, apos, letters, Form, start_of, end_of, text_of, ref_of, spelling, Allowed}
@@ -24,7 +19,7 @@ holds false t = absurd t
 held : (a : Bool) → a ≡ true → T a
 held a e = subst T (sym e) tt
 
-part_not_end : (b : ℕ) → name_part b ≡ true → eqb b 62 ≡ false
+pub part_not_end : (b : ℕ) → name_part b ≡ true → eqb b 62 ≡ false
 unfolding name_part
 part_not_end b h = ne_eqb b 62 (λ e. let z : false ≡ true = rw e at h in let y : ◌≡◌ {A = ℕ} 0 1 = cc in omega arith)
 

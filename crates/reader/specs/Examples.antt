@@ -1,8 +1,11 @@
--- The table of 4 against 11 as cases. Assumes nothing.
+-- The table of 4 against 11 as cases: REQUIREMENTS B4, with two names in the table, a and 32 times b. Assumes nothing.
 --
---   Case        bytes with the number, the event and the bytes taken that the answer must have
---   cases       REQUIREMENTS B4, with the one name a in the table; and 5 for whole tags alone
---   nested      the five references, tags and text with an event behind them: the first is taken
+--   Case            bytes with the number, the event and the bytes taken that the answer must have
+--   refused         a case without event; `gives`: one with an event
+--   cut_cases       bytes that end inside an event, or none: 11
+--   bad_cases       bytes that begin no event: 4
+--   unknown_cases   whole tags alone whose name is not in the table: 5
+--   taken_cases     text, tags and the five references, some with more behind them: the first event is taken
 use Rattle.std.specs.Prelude.{ℕ, List, [], ◌∷◌, ◌++◌, replicate}
 use Rattle.std.proofs.Math.Option.{Option, none, some}
 use Rattle.meaning.specs.Event.{Event, start, char, end}

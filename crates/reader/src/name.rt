@@ -1,43 +1,43 @@
 // Names, up to the `>` behind them.
-ghost use Rattle.std.specs.Prelude.{◌≡◌, ◌≤◌, length, drop};
+#![tactic(auto, using(crate::proofs::Place::name_laws))]
+
+ghost use Rattle.std.specs.Prelude.{◌≡◌, take};
+ghost use Rattle.std.specs.List.{prefix_len};
+ghost use Rattle.alphabet.specs.Classes.{name_part};
+ghost use Rattle.reader.specs.declared.name.TheConstants.{LONGEST};
 ghost use Rattle.reader.specs.Place.{end_at};
 ghost use Rattle.reader.specs.Scan.{scan_name};
+
+use crate::Refusal;
 
 // "A name has 1 to 32 bytes"
 const LONGEST: usize = 32;
 
-// Where a name ends: at its `>`; or the bytes end inside it; or it is none.
-#[derive(Clone, Copy)]
-pub enum NameEnd {
-    At(usize),
-    Cut,
-    Bad,
+// How many bytes at the front a name may have.
+fn parts(bytes: &[u8]) -> usize
+    ensures { result ≡ prefix_len name_part (take LONGEST bytes.now) }
+{
+    bytes
+        .iter()
+        .take(LONGEST)
+        .take_while(|b| alphabet::is_name_part(**b))
+        .count()
 }
 
-// Where the name ends that begins at `from`.
-pub fn name_end(bytes: &[u8], from: usize) -> NameEnd
-    requires { from ≤ length bytes.now }
-    ensures { result ≡ end_at from (scan_name (drop from bytes.now)) }
+// How long the name is that the bytes begin with, its `>` behind it.
+pub fn name_end(bytes: &[u8]) -> Result<usize, Refusal>
+    ensures { result ≡ end_at (scan_name bytes.now) }
 {
-    if from == bytes.len() {
-        return NameEnd::Cut;
+    let Some(first) = bytes.first() else {
+        return Err(Refusal::Cut);
+    };
+    if !alphabet::is_name_start(*first) {
+        return Err(Refusal::Byte);
     }
-    if !alphabet::is_name_start(bytes[from]) {
-        return NameEnd::Bad;
+    let long = parts(bytes);
+    match bytes.get(long) {
+        None => Err(Refusal::Cut),
+        Some(b'>') => Ok(long),
+        Some(_) => Err(Refusal::Byte),
     }
-    let mut at = from + 1;
-    while at < bytes.len() {
-        let b = bytes[at];
-        if b == b'>' {
-            return NameEnd::At(at);
-        }
-        if at - from == LONGEST {
-            return NameEnd::Bad;
-        }
-        if !alphabet::is_name_part(b) {
-            return NameEnd::Bad;
-        }
-        at += 1;
-    }
-    NameEnd::Cut
 }

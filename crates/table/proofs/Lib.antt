@@ -1,4 +1,3 @@
-pub mod Runs
 pub mod Naming
 pub mod Sides
 pub mod Examples

@@ -1,9 +1,11 @@
-// The rule table: checked byte for byte, then read in place.
+// The rule table: its names, its states, and the right sides of its rules, read where they stand.
 //
-// `check` gives the number and the place of document 01's refusals 1, 2 and 3; `index` notes where the parts of an accepted
-// table stand; `lookup` finds a rule's right side, and `names` a name's number.
+// To come: the check, which gives the number and the place of document 01's refusals 1, 2 and 3, an index of where the parts of
+// an accepted table stand, and the lookup of a rule's right side.
 #![tactic(auto)]
 
-mod bytes;
+mod item;
 pub mod names;
+mod refusal;
 mod side;
+mod states;

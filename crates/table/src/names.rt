@@ -1,56 +1,58 @@
 // Names, compared where they stand.
-ghost use Rattle.std.specs.Prelude.{◌≡◌, ◌+◌, ◌*◌, ◌≤◌, ◌<◌, length, get_or};
-ghost use Rattle.std.proofs.Math.Seq.{slice};
-ghost use Rattle.table.specs.Format.{same_bytes, number_of};
-ghost use Rattle.table.specs.Names.{name_at, names_at};
+#![tactic(auto, using(crate::proofs::Naming::name_laws))]
 
-use crate::bytes::{byte_at, same_run};
+ghost use Rattle.std.specs.Prelude.{◌≡◌, ◌+◌, ◌≤◌, ℕ, List, get_or, drop};
+ghost use Rattle.table.specs.Names.{name_at, names_at, found};
 
-// How many bytes the name has whose field begins at a place of the table: as many as its length says, or as are left.
-fn name_length(table: &[u8], at: usize) -> usize
-    requires { at ≤ 65536 }
-    ensures { (result ≡ length (name_at table.now at)) × (result < 256) × (0 < result → at + 3 + result ≤ length table.now) }
-{
-    let long = byte_at(table, at + 2);
-    let end = table.len();
-    if at + 3 + long <= end {
-        return long;
-    }
-    if end <= at + 3 {
-        return 0;
-    }
-    end - (at + 3)
+use std::marker::Model;
+
+// The first names of a table, which has at most 128: a contract sees the list of them.
+#[derive(Drop)]
+pub struct Names<'a> {
+    table: &'a [u8],
+    count: u8,
 }
 
-// Whether that name is the bytes from `from` to `to`.
-fn is_named(table: &[u8], at: usize, bytes: &[u8], from: usize, to: usize) -> bool
-    requires { (at ≤ 65536) × (from ≤ to) × (to ≤ length bytes.now) }
-    ensures { result ≡ same_bytes (name_at table.now at) (slice from to bytes.now) }
-{
-    let long = name_length(table, at);
-    if to - from != long {
-        return false;
-    }
-    if long == 0 {
-        return true;
-    }
-    same_run(table, at + 3, bytes, from, long)
+impl<'a> Model for Names<'a> {
+    ghost Value = { List (List ℕ) };
+
+    ghost view = { λ n. names_at n.table.now 0 n.count };
 }
 
-// The number of the name that stands in `bytes` from `from` to `to`, among the table's first `count` names; `count` where it is
-// none of them.
-pub fn find_name(table: &[u8], count: usize, bytes: &[u8], from: usize, to: usize) -> usize
-    requires { (count ≤ 128) × (from ≤ to) × (to ≤ length bytes.now) }
-    ensures { (result ≡ number_of (names_at table.now 0 count) (slice from to bytes.now)) × (result ≤ count) }
+// The name whose field the bytes begin with, as long as its length says or as the bytes are; and what stands behind it.
+fn first_name(bytes: &[u8]) -> (&[u8], &[u8])
+    ensures name { result.0.now ≡ name_at bytes.now 0 }
+    ensures behind { result.1.now ≡ drop (3 + get_or bytes.now 2 0) bytes.now }
 {
-    let mut n = 0;
-    let mut at = 0;
-    while n < count {
-        if is_named(table, at, bytes, from, to) {
-            return n;
+    let long = bytes.get(2).copied().map_or(0, usize::from);
+    let rest = &bytes[3.min(bytes.len())..];
+    let end = long.min(rest.len());
+    rest.split_at(end)
+}
+
+impl<'a> Names<'a> {
+    pub fn new(table: &'a [u8], count: usize) -> Self
+        requires { count ≤ 128 }
+        ensures { result ≡ names_at table.now 0 count }
+    {
+        Names {
+            table,
+            count: count as u8,
         }
-        at = at + 3 + byte_at(table, at + 2);
-        n += 1;
     }
-    n
+
+    // The number of a name, where it is one of these.
+    pub fn find_name(&self, name: &[u8]) -> Option<u8>
+        ensures { result ≡ found self.now name.now }
+    {
+        let mut rest = self.table;
+        for n in 0..self.count {
+            let (first, behind) = first_name(rest);
+            if first == name {
+                return Some(n);
+            }
+            rest = behind;
+        }
+        None
+    }
 }

@@ -2,247 +2,166 @@
 //
 // Every 3 beats every 2, so the whole right side is read before 2 is told; a carried value has no size, so a right side may have
 // thousands of items.
-ghost use Rattle.std.specs.Prelude.{◌≡◌, ◌||◌, ◌+◌, ◌*◌, ◌≤◌, ◌<◌, ltb, length, get_or};
-ghost use Rattle.std.proofs.Math.Seq.{slice};
-ghost use Rattle.table.specs.Side.{has_element, has_some, source_of, side_number};
-ghost use Rattle.table.specs.Names.{ranks_at};
-ghost use Rattle.table.specs.Turns.{Taken, Inside, ranks_of, verdict};
+#![tactic(auto, using(crate::proofs::Naming::rank_laws, crate::proofs::Sides::side_laws))]
 
-use crate::bytes::byte_at;
+ghost use Rattle.std.specs.Prelude.{◌≡◌, ◌+◌, ◌≤◌, length, get_or, IfSome};
+ghost use Rattle.table.specs.Side.{has_element, has_source, allowed, owed, words, side_number};
+ghost use Rattle.table.specs.Items.{source_meant, meant};
+ghost use Rattle.table.specs.Tally.{matched, ends, tallied, number, verdict};
+
+use crate::item::{Item, Source, first_item};
+use crate::refusal::Refusal;
+use crate::states::States;
 use alphabet::is_leaf;
 
-// What the items of a rule may mention: names, states (the first one's field begins at `base`), the rule's pattern, and the
-// carried values of its state.
-#[derive(Clone, Copy)]
-pub struct Scope {
+const MOST_OWED: usize = 8;
+
+const MOST_WORDS: usize = 64;
+
+// What a rule's pattern matches.
+#[derive(Clone, Copy, PartialEq, Eq)]
+enum Node {
+    Element,
+    Character,
+}
+
+// What the items of a rule may mention: names, states, what the rule's pattern matches, and the carried values of its state.
+#[derive(Drop)]
+pub struct Scope<'a> {
     pub names: usize,
-    pub states: usize,
-    pub base: usize,
+    pub states: States<'a>,
+    // a number still: every number has an answer here, and the check of a rule refuses those that are no pattern's
     pub pattern: usize,
     pub values: usize,
 }
 
-// One item: its bytes, 0 where it is refused, the ends owed after it, and its words.
+// What the items of a right side come to so far: the ends owed, the words, and whether too many ends were owed at some point.
 #[derive(Clone, Copy)]
-pub struct Turn {
-    pub size: usize,
-    pub owed: usize,
-    pub words: usize,
+struct Tally {
+    owed: usize,
+    words: usize,
+    over: bool,
 }
 
-fn refused() -> Turn
-    ensures { result ≡ record { size = 0; owed = 0; words = 0 } }
+// An element is matched under patterns 01 and 02 only, a character under 03.
+fn matched(pattern: usize) -> Option<Node>
+    ensures { result ≡ matched pattern }
 {
-    Turn {
-        size: 0,
-        owed: 0,
-        words: 0,
+    match pattern {
+        1 | 2 => Some(Node::Element),
+        3 => Some(Node::Character),
+        _ => None,
     }
 }
 
-// The matched element is there under patterns 01 and 02 only.
-fn has_element(pattern: usize) -> bool
-    ensures { result ≡ has_element pattern }
+// A character has no children, the empty list neither.
+fn has_source(pattern: usize, source: Source) -> bool
+    ensures { result ≡ has_source pattern (source_meant source) }
 {
-    if pattern == 1 {
-        return true;
+    match source {
+        Source::Children => matched(pattern) == Some(Node::Element),
+        Source::Siblings => matched(pattern).is_some(),
     }
-    pattern == 2
 }
 
-// Source 01 is the children, 02 the siblings; a character has no children, the empty list neither.
-fn has_source(pattern: usize, source: usize) -> bool
-    ensures { result ≡ has_some pattern (source_of source) }
-{
-    if source == 1 {
-        return has_element(pattern);
-    }
-    if source == 2 {
-        if has_element(pattern) {
-            return true;
+impl<'a> Scope<'a> {
+    // Whether an item may stand in the right side.
+    fn allows(&self, item: Item) -> bool
+        ensures { result ≡ allowed self.now.names self.now.states self.now.pattern self.now.values (meant item) }
+    {
+        match item {
+            Item::Element(name) => usize::from(name) < self.names,
+            Item::Matched => matched(self.pattern) == Some(Node::Element),
+            Item::Letter(byte) => is_leaf(byte),
+            Item::MatchedLetter => matched(self.pattern) == Some(Node::Character),
+            Item::Value(value) => usize::from(value) < self.values,
+            Item::Call(source, state) => {
+                has_source(self.pattern, source) && self.states.rank(state).is_some()
+            }
+            Item::End => true,
         }
-        return pattern == 3;
     }
-    false
-}
 
-fn element_item(table: &[u8], at: usize, stop: usize, scope: Scope, owed: usize) -> Turn
-    requires { Inside table.now at stop owed 16 }
-    ensures { Taken table.now at stop scope owed result }
-{
-    if stop - at < 2 {
-        return refused();
+    fn rank(&self, state: u8) -> u8
+        ensures { result ≡ get_or self.now.states state 0 }
+    {
+        self.states.rank(state).unwrap_or(0)
     }
-    if byte_at(table, at + 1) < scope.names {
-        return Turn {
-            size: 2,
-            owed: owed + 1,
-            words: 2,
-        };
-    }
-    refused()
-}
 
-fn matched_item(table: &[u8], at: usize, stop: usize, scope: Scope, owed: usize) -> Turn
-    requires { Inside table.now at stop owed 17 }
-    ensures { Taken table.now at stop scope owed result }
-{
-    if has_element(scope.pattern) {
-        return Turn {
-            size: 1,
-            owed: owed + 1,
-            words: 2,
-        };
+    // The ends owed after an item; nothing where it is an end that is not owed.
+    fn ends(&self, item: Item, owed: usize) -> Option<usize>
+        requires { owed ≤ 4294967296 }
+        ensures ends { result ≡ ends self.now.states (meant item) owed }
+        ensures few { IfSome result (λ d. d ≤ owed + 255) }
+    {
+        match item {
+            Item::Element(_) | Item::Matched => Some(owed + 1),
+            Item::Letter(_) | Item::MatchedLetter | Item::Value(_) => Some(owed),
+            Item::Call(_, state) => Some(usize::from(self.rank(state)) + owed),
+            Item::End => owed.checked_sub(1),
+        }
     }
-    refused()
-}
 
-fn letter_item(table: &[u8], at: usize, stop: usize, scope: Scope, owed: usize) -> Turn
-    requires { Inside table.now at stop owed 18 }
-    ensures { Taken table.now at stop scope owed result }
-{
-    if stop - at < 2 {
-        return refused();
+    // The size of an item.
+    fn words(&self, item: Item) -> u16
+        ensures { result ≡ words self.now.states (meant item) }
+    {
+        match item {
+            Item::Element(_) | Item::Matched => 2,
+            Item::Letter(_) | Item::MatchedLetter => 1,
+            Item::Call(_, state) => 1 + u16::from(self.rank(state)),
+            Item::Value(_) | Item::End => 0,
+        }
     }
-    if is_leaf(table[at + 1]) {
-        return Turn {
-            size: 2,
-            owed: owed,
-            words: 1,
-        };
-    }
-    refused()
-}
 
-fn matched_letter_item(table: &[u8], at: usize, stop: usize, scope: Scope, owed: usize) -> Turn
-    requires { Inside table.now at stop owed 19 }
-    ensures { Taken table.now at stop scope owed result }
-{
-    if scope.pattern == 3 {
-        return Turn {
-            size: 1,
-            owed: owed,
-            words: 1,
-        };
+    // With one item more; nothing where it may not stand there.
+    fn tallied(&self, tally: Tally, item: Item) -> Option<Tally>
+        requires owed { tally.owed ≤ 4294967296 }
+        requires words { tally.words ≤ 4294967296 }
+        ensures tallied { result ≡ tallied self.now.names self.now.states self.now.pattern self.now.values tally (meant item) }
+        ensures few { IfSome result (λ t. t.owed ≤ tally.owed + 255) }
+        ensures small { IfSome result (λ t. t.words ≤ tally.words + 65535) }
+    {
+        if !self.allows(item) {
+            return None;
+        }
+        let owed = self.ends(item, tally.owed)?;
+        Some(Tally {
+            owed,
+            words: tally.words + usize::from(self.words(item)),
+            over: tally.over || owed > MOST_OWED,
+        })
     }
-    refused()
-}
 
-fn value_item(table: &[u8], at: usize, stop: usize, scope: Scope, owed: usize) -> Turn
-    requires { Inside table.now at stop owed 20 }
-    ensures { Taken table.now at stop scope owed result }
-{
-    if stop - at < 2 {
-        return refused();
-    }
-    if byte_at(table, at + 1) < scope.values {
-        return Turn {
-            size: 2,
-            owed: owed,
+    // Whether the bytes are a right side.
+    pub fn side(&self, bytes: &[u8]) -> Result<(), Refusal>
+        requires { length bytes.now ≤ 32768 }
+        ensures { number result ≡ side_number self.now.names self.now.states self.now.pattern self.now.values bytes.now }
+    {
+        let mut rest = bytes;
+        let mut tally = Tally {
+            owed: 0,
             words: 0,
+            over: false,
         };
-    }
-    refused()
-}
-
-fn call_item(table: &[u8], at: usize, stop: usize, scope: Scope, owed: usize) -> Turn
-    requires { (Inside table.now at stop owed 21) × (scope.states ≤ 64) × (scope.base ≤ 65536) }
-    ensures { Taken table.now at stop scope owed result }
-{
-    if stop - at < 3 {
-        return refused();
-    }
-    if !has_source(scope.pattern, byte_at(table, at + 1)) {
-        return refused();
-    }
-    let state = byte_at(table, at + 2);
-    if scope.states <= state {
-        return refused();
-    }
-    let values = byte_at(table, scope.base + 4 * state + 3);
-    Turn {
-        size: 3,
-        owed: values + owed,
-        words: 1 + values,
-    }
-}
-
-fn end_item(table: &[u8], at: usize, stop: usize, scope: Scope, owed: usize) -> Turn
-    requires { Inside table.now at stop owed 31 }
-    ensures { Taken table.now at stop scope owed result }
-{
-    if owed == 0 {
-        return refused();
-    }
-    Turn {
-        size: 1,
-        owed: owed - 1,
-        words: 0,
-    }
-}
-
-// "An item is told by its first byte"; other bytes are refused.
-fn item(table: &[u8], at: usize, stop: usize, scope: Scope, owed: usize) -> Turn
-    requires { (at < stop) × (stop ≤ length table.now) × (length table.now ≤ 65536) × (owed ≤ 16777216) × (scope.states ≤ 64) × (scope.base ≤ 65536) }
-    ensures { Taken table.now at stop scope owed result }
-{
-    let b = table[at];
-    match b {
-        0x10 => element_item(table, at, stop, scope, owed),
-        0x11 => matched_item(table, at, stop, scope, owed),
-        0x12 => letter_item(table, at, stop, scope, owed),
-        0x13 => matched_letter_item(table, at, stop, scope, owed),
-        0x14 => value_item(table, at, stop, scope, owed),
-        0x15 => call_item(table, at, stop, scope, owed),
-        0x1F => end_item(table, at, stop, scope, owed),
-        _ => refused(),
-    }
-}
-
-fn is_over(over: bool, owed: usize) -> bool
-    ensures { result ≡ (over || ltb 8 owed) }
-{
-    if over {
-        return true;
-    }
-    8 < owed
-}
-
-// What the end of a right side comes to: an end still owed, more than 8 owed at some point, more than 64 words.
-fn ending(owed: usize, words: usize, over: bool) -> u8
-    ensures { result ≡ verdict owed words over }
-{
-    if owed != 0 {
-        return 3;
-    }
-    if over {
-        return 2;
-    }
-    if 64 < words {
-        return 2;
-    }
-    0
-}
-
-// The number of the right side from `from` to `stop`: 3, 2 or 0.
-pub fn side(table: &[u8], from: usize, stop: usize, scope: Scope) -> u8
-    requires { (from ≤ stop) × (stop ≤ length table.now) × (length table.now ≤ 32768) × (scope.states ≤ 64) × (scope.base ≤ 65536) }
-    ensures { result ≡ side_number scope.names (ranks_of table.now scope) scope.pattern scope.values (slice from stop table.now) }
-{
-    let mut at = from;
-    let mut owed = 0;
-    let mut words = 0;
-    let mut over = false;
-    while at < stop {
-        let turn = item(table, at, stop, scope, owed);
-        let size = turn.size;
-        if size == 0 {
-            return 3;
+        while !rest.is_empty() {
+            let (item, behind) = first_item(rest).ok_or(Refusal::Rule)?;
+            tally = self.tallied(tally, item).ok_or(Refusal::Rule)?;
+            rest = behind;
         }
-        owed = turn.owed;
-        words += turn.words;
-        over = is_over(over, owed);
-        at += size;
+        verdict(tally)
     }
-    ending(owed, words, over)
+}
+
+// What the end of a right side comes to.
+fn verdict(tally: Tally) -> Result<(), Refusal>
+    ensures { number result ≡ verdict tally.owed tally.words tally.over }
+{
+    if tally.owed != 0 {
+        return Err(Refusal::Rule);
+    }
+    if tally.over || tally.words > MOST_WORDS {
+        return Err(Refusal::Limit);
+    }
+    Ok(())
 }
