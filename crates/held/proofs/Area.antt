@@ -1,15 +1,7 @@
 -- Parts of an area, as lists. Assumes nothing.
-use Prim.Native.Nat.{ℕ, zero, suc, ◌+◌, ◌≤◌, ◌<◌}
-use mathlib.Core.Path.{◌≡◌, sym, ap, ◌∙◌}
-use mathlib.Core.List.{List, [], ◌∷◌}
-use native.Mathlib.Omega.{arith}
-use native.Mathlib.Nat.{zero-add, suc-add}
-use native.Mathlib.Numerals.{add-one}
-use lib.ListN.{length, get_or, take, drop, length-take, drop_of_length-le}
-use lib.Seq.{slice, slice-cons, length-slice, take-nil, take-take, drop-drop}
-
-pub slice_none : (f t : ℕ) (l : List ℕ) → t ≤ f → slice f t l ≡ []
-slice_none f t l h = let e : length (take t l) ≤ f = simp length-take (omega arith) in drop_of_length-le (take t l) e
+use Rattle.std.proofs.Common.{ℕ, zero, suc, ◌+◌, ◌-◌, ◌≤◌, ◌<◌, ◌≡◌, List, [], ◌∷◌, length, get_or, take, drop, slice_range, sym, ap, ◌∙◌, arith, suc-add, zero-add, add-one}
+use Rattle.std.proofs.Math.Seq.{slice, slice-cons, length-slice, take-nil, take-length}
+use Rattle.std.proofs.lemmas.List.{take-take, drop-drop}
 
 -- a part of a part, from its beginning on and up to a place
 drop-take : (f k : ℕ) (l : List ℕ) → drop f (take (f + k) l) ≡ take k (drop f l)
@@ -23,6 +15,13 @@ module _ (f k t : ℕ) (l : List ℕ) where
 
   pub slice_to : f + k ≤ t → slice f (f + k) l ≡ take k (slice f t l)
   slice_to h = ap (drop f) (sym (take-take (f + k) t l h)) ∙ drop-take f k (take t l)
+
+-- a part up to the end, and what `&area[from..to]` is
+pub slice_to_end : (f : ℕ) (l : List ℕ) → slice f (length l) l ≡ drop f l
+slice_to_end f l = ap (drop f) (take-length l)
+
+pub slice-slice_range : (from to : ℕ) (area : List ℕ) → from ≤ to → slice from to area ≡ slice_range area from to
+slice-slice_range from to area h = let e : to ≡ from + (to - from) = omega arith in ap (λ (t : ℕ). slice from t area) e ∙ drop-take from (to - from) area
 
 -- a part that begins with a word: the word, and the part behind it
 pub record Headed (at to w : ℕ) (ws area : List ℕ) : Type 0 where

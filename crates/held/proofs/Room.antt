@@ -1,12 +1,8 @@
 -- The numbers of a table's vocabulary have room in a word. Assumes nothing.
-use Prim.Native.Nat.{ℕ, ◌≤◌, ◌<◌}
-use mathlib.Core.Path.{◌≡◌}
-use mathlib.Core.List.{List}
-use mathlib.Core.Bool.{false, and-false}
-use native.Mathlib.Omega.{arith}
-use native.Mathlib.Decide.{dec_lt}
-use borrow.Author.Tests.{ne_eqb, lt-leb}
-use lib.Dec.{T}
+use Rattle.std.proofs.Common.{ℕ, ◌≤◌, ◌<◌, ◌≡◌, List, false, T, arith, ne_eqb}
+use Rattle.std.proofs.Math.Bool.{and-false}
+use Rattle.std.proofs.Math.Decide.{dec_lt}
+use Rattle.std.proofs.lemmas.Bool.{lt-leb}
 use Rattle.alphabet.specs.Classes.{is_leaf}
 use Rattle.table.specs.Index.{names_in, states_in, vocab}
 use Rattle.held.specs.Words.{Room}

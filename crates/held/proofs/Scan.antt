@@ -1,22 +1,16 @@
--- The scan passes the words of the table's held expressions, and no others: `encoded`, `held_encodes`, `encodes_held`.
+-- The scan passes the words of the table's held expressions, and no others: `held_encodes`, `encodes_held`, `encodes_read`.
 -- Assumes nothing.
-use Prim.Native.Nat.{ℕ, zero, suc, pred, ◌+◌, ◌≤◌, ◌<◌}
-use mathlib.Core.Path.{◌≡◌, refl, sym, ap, ap₂, ◌∙◌, subst}
-use mathlib.Core.List.{List, [], ◌∷◌, ◌++◌, append_assoc, append-nil}
-use mathlib.Core.Bool.{Bool, true, false, ◌&&◌}
-use native.Mathlib.Omega.{arith}
-use native.Mathlib.Nat.{zero-add, add-zero, suc-add}
-use native.Mathlib.Numerals.{add-one}
-use native.Mathlib.Decide.{ℕ_discrete}
-use lib.ListN.{length, get_or, take}
-use lib.Seq.{slice, slice-cons, slice_empty}
-use borrow.Author.Tests.{eq-eqb, lt-ltb, le-leb, ltb-true, leb-true, eqb-true}
-use lib.Dec.{T, eqb, ltb, leb}
+use Rattle.std.proofs.Common.{ℕ, zero, suc, pred, ◌+◌, ◌≤◌, ◌<◌, ◌≡◌, min, List, [], ◌∷◌, ◌++◌, Bool, true, false, ◌&&◌, cond, T, eqb, ltb, leb, length, get_or, drop, refl, sym, ap, ap₂, ◌∙◌, subst, append_assoc, append-nil, arith, zero-add, add-zero, suc-add, eq-eqb, ne_eqb, lt-ltb, le-leb, ltb-true, leb-true, eqb-true, length-drop, drop_of_length-le}
+use Rattle.std.proofs.Math.Bool.{and-false}
+use Rattle.std.proofs.Math.Decide.{ℕ_discrete, dec_le}
+use Rattle.std.proofs.Math.Nat.{min-eq_left}
+use Rattle.std.proofs.lemmas.List.{drop_more}
 use Rattle.meaning.specs.Held.{Expr, Args, ε, opening, closing, chr, wait, ∅, also, Begins}
 use Rattle.meaning.specs.Valid.{Vocabulary, Count, Valid, ValidAll}
-use Rattle.held.specs.Words.{start_kind, end_kind, char_kind, call_kind, start_word, end_word, char_word, call_word, close_word, Room, flat, flats, kind_of, payload_of, state_of, level_of, Item, start_item, end_item, char_item, call_item, close_item, no_item, item_of, word_of, args_from, read_item, expr_at}
+use Rattle.held.specs.Words.{call_kind, start_word, end_word, char_word, call_word, close_word, Room, flat, flats, kind_of, Item, start_item, end_item, char_item, call_item, close_item, no_item, item_of, word_of, args_from, read_item, expr_at}
 use Rattle.held.specs.Scan.{call_fits, fits, owe, scan, begins, is_held, Encodes}
-use Rattle.held.proofs.Words.{of_close, of_call, of_start, of_end, of_char, of_none, word_item, item_start, item_end, item_char, kind_call, item_call, item_close, state_room, level_room, read-flat}
+use Rattle.held.proofs.Room.{leaf-high}
+use Rattle.held.proofs.Words.{of_close, of_call, word_item, item_start, item_end, item_char, kind_call, item_call, item_close, state_room, level_room, read-flat}
 
 -- both of two tests
 pub both : (a b : Bool) → (a && b) ≡ true → (a ≡ true) × (b ≡ true)
@@ -196,73 +190,85 @@ module _ (K : Vocabulary) (d : ℕ) where
     pub encodes_read : (ws : List ℕ) (h : Encodes K d ws) → h.expr ≡ expr_at K.rank ws 0
     encodes_read ws h = sym (read-flat K d R h.expr h.valid) ∙ ap (λ (l : List ℕ). expr_at K.rank l 0) h.words
 
--- what a word does to a scan, by its kind: what the code tests
-module _ (K : Vocabulary) (w n : ℕ) where
-  pub owe_close : w ≡ close_word → owe K (item_of w) n ≡ pred n
+-- more ends are owed than words are left
+module _ (K : Vocabulary) (d : ℕ) where
+  pub owe_low : (x : Item) (n : ℕ) → n ≤ owe K x n + 1
   unfolding owe
-  owe_close h = rw (of_close w h)
+  owe_low (start_item m) n = omega arith
+  owe_low (end_item m) n = omega arith
+  owe_low (char_item c) n = omega arith
+  owe_low (call_item q l) n = omega arith
+  owe_low close_item zero = omega arith
+  owe_low close_item (suc n) = omega arith
+  owe_low no_item n = omega arith
 
-  pub owe-call : kind_of w ≡ call_kind → owe K (item_of w) n ≡ K.rank (state_of w) + n
-  unfolding owe
-  owe-call h = rw (of_call w h)
-
-  owe_by_kind : (w ≡ close_word → ⊥) → (kind_of w ≡ call_kind → ⊥) → Dec (kind_of w ≡ start_kind) → Dec (kind_of w ≡ end_kind) → Dec (kind_of w ≡ char_kind) → owe K (item_of w) n ≡ n
-  unfolding owe
-  owe_by_kind a b (yes z) d e = rw (of_start w z)
-  owe_by_kind a b (no c) (yes z) e = rw (of_end w z)
-  owe_by_kind a b (no c) (no d) (yes z) = rw (of_char w z)
-  owe_by_kind a b (no c) (no d) (no e) = rw (of_none w a b c d e)
-
-  pub owe_other : (w ≡ close_word → ⊥) → (kind_of w ≡ call_kind → ⊥) → owe K (item_of w) n ≡ n
-  owe_other a b = owe_by_kind a b (ℕ_discrete (kind_of w) start_kind) (ℕ_discrete (kind_of w) end_kind) (ℕ_discrete (kind_of w) char_kind)
-
-  module _ (d : ℕ) where
-    pub fits_close : w ≡ close_word → fits K d (item_of w) n ≡ ltb 0 n
-    unfolding fits
-    fits_close h = rw (of_close w h)
-
-    pub fits-call : kind_of w ≡ call_kind → fits K d (item_of w) n ≡ call_fits K d (state_of w) (level_of w)
-    unfolding fits
-    fits-call h = rw (of_call w h)
-
-    tag_by_kind : start_kind ≤ kind_of w → kind_of w ≤ end_kind → Dec (kind_of w ≡ start_kind) → fits K d (item_of w) n ≡ ltb (payload_of w) K.names
-    unfolding fits
-    tag_by_kind a b (yes z) = rw (of_start w z)
-    tag_by_kind a b (no c) = rw (of_end w (omega arith))
-
-    pub fits_tag : start_kind ≤ kind_of w → kind_of w ≤ end_kind → fits K d (item_of w) n ≡ ltb (payload_of w) K.names
-    fits_tag a b = tag_by_kind a b (ℕ_discrete (kind_of w) start_kind)
-
-    pub fits-char : kind_of w ≡ char_kind → fits K d (item_of w) n ≡ K.is_leaf (payload_of w)
-    unfolding fits
-    fits-char h = rw (of_char w h)
-
-    pub fits_none : (w ≡ close_word → ⊥) → (kind_of w ≡ call_kind → ⊥) → (kind_of w ≡ start_kind → ⊥) → (kind_of w ≡ end_kind → ⊥) → (kind_of w ≡ char_kind → ⊥) → fits K d (item_of w) n ≡ false
-    unfolding fits
-    fits_none a b c e f = rw (of_none w a b c e f)
-
--- a scan along an area
-module _ (K : Vocabulary) (d : ℕ) (area : List ℕ) (held at n : ℕ) where
-  scan-at : at < held → held ≤ length area → scan K d (slice at held area) n ≡ (fits K d (item_of (get_or area at 0)) n && scan K d (slice (at + 1) held area) (owe K (item_of (get_or area at 0)) n))
+  pub scan_short : (ws : List ℕ) (n : ℕ) → length ws < n → scan K d ws n ≡ false
   unfolding scan
-  scan-at h k = rw (add-one, slice-cons at held area 0 h k)
+  scan_short [] n h = ne_eqb n 0 (λ z. omega arith)
+  scan_short (w ∷ ws) n h = rw (scan_short ws (owe K (item_of w) n) (omega (arith, owe_low (item_of w) n))) (and-false _)
 
-  pub scan-stop : at < held → held ≤ length area → fits K d (item_of (get_or area at 0)) n ≡ false → scan K d (slice at held area) n ≡ false
-  scan-stop h k e = scan-at h k ∙ rw e
+  -- so a scan needs no number above the words that are left
+  scan_capped : (ws : List ℕ) (n m : ℕ) → length ws < m → Dec (n ≤ m) → scan K d ws (min n m) ≡ scan K d ws n
+  scan_capped ws n m h (yes l) = ap (scan K d ws) (min-eq_left l)
+  scan_capped ws n m h (no l) = scan_short ws (min n m) (omega arith) ∙ sym (scan_short ws n (omega arith))
 
-  pub scan-more : at < held → held ≤ length area → fits K d (item_of (get_or area at 0)) n ≡ true → scan K d (slice at held area) n ≡ scan K d (slice (at + 1) held area) (owe K (item_of (get_or area at 0)) n)
-  scan-more h k e = scan-at h k ∙ rw e
+-- a number owed that is below its cap is what is owed
+pub owed-owe : (K : Vocabulary) (x : Item) (n m r : ℕ) → r ≡ min (owe K x n) m → r < m → r ≡ owe K x n
+owed-owe K x n m r h l = omega (arith, h)
 
-  pub scan-done : at ≤ held → held ≤ at → scan K d (slice at held area) n ≡ eqb n 0
+-- a scan along words, with no number above m
+module _ (K : Vocabulary) (d : ℕ) (words : List ℕ) (at n : ℕ) where
+  scan-at : at < length words → scan K d (drop at words) n ≡ (fits K d (item_of (get_or words at 0)) n && scan K d (drop (at + 1) words) (owe K (item_of (get_or words at 0)) n))
   unfolding scan
-  scan-done h k = let z : at ≡ held = omega arith in rw (z, slice_empty)
+  scan-at h = rw (drop_more words at 0 h)
 
--- the first word decides
-module _ (area : List ℕ) (held : ℕ) where
-  pub begins_none : held ≡ 0 → true ≡ begins (take held area)
-  unfolding begins
-  begins_none h = rw h
+  pub scan_stop : at < length words → fits K d (item_of (get_or words at 0)) n ≡ false → scan K d (drop at words) n ≡ false
+  scan_stop h e = scan-at h ∙ rw e
 
-  pub begins-first : (held ≡ 0 → ⊥) → held ≤ length area → eqb (kind_of (get_or area 0 0)) call_kind ≡ begins (take held area)
-  unfolding begins
-  begins-first h l = rw (slice-cons 0 held area 0 (omega arith) l)
+  pub scan_more : (m : ℕ) → at < length words → length words ≤ m → fits K d (item_of (get_or words at 0)) n ≡ true → scan K d (drop (at + 1) words) (min (owe K (item_of (get_or words at 0)) n) m) ≡ scan K d (drop at words) n
+  scan_more m h l e =
+      let r = drop (at + 1) words in
+      let b : length r < m = omega (arith, length-drop (at + 1) words) in
+      scan_capped K d r (owe K (item_of (get_or words at 0)) n) m b (dec_le _ m) ∙ sym (scan-at h ∙ rw e)
+
+  pub scan_done : length words ≤ at → scan K d (drop at words) n ≡ eqb n 0
+  unfolding scan
+  scan_done h = rw (drop_of_length-le words h)
+
+-- the first word decides, by what it says
+abbrev pub is_call : Item → Bool
+is_call (start_item n) = false
+is_call (end_item n) = false
+is_call (char_item c) = false
+is_call (call_item q l) = true
+is_call close_item = false
+is_call no_item = false
+
+tag_no_call : (a b c : Bool) (n : ℕ) → is_call (cond a (start_item n) (cond b (end_item n) (cond c (char_item n) no_item))) ≡ false
+tag_no_call true b c n = refl
+tag_no_call false true c n = refl
+tag_no_call false false true n = refl
+tag_no_call false false false n = refl
+
+module _ (w : ℕ) where
+  call_by_kind : Dec (w ≡ close_word) → Dec (kind_of w ≡ call_kind) → eqb (kind_of w) call_kind ≡ is_call (item_of w)
+  unfolding item_of
+  call_by_kind (yes z) b = rw (of_close w z) (ne_eqb (kind_of w) call_kind (λ y. omega arith))
+  call_by_kind (no a) (yes z) = rw (of_call w z) (eq-eqb (kind_of w) call_kind z)
+  call_by_kind (no a) (no b) = simp (ne_eqb w close_word a, ne_eqb (kind_of w) call_kind b, tag_no_call)
+
+  kind_of-is_call : eqb (kind_of w) call_kind ≡ is_call (item_of w)
+  kind_of-is_call = call_by_kind (ℕ_discrete w close_word) (ℕ_discrete (kind_of w) call_kind)
+
+pub begins_none : (ws : List ℕ) → length ws < 1 → begins ws ≡ true
+unfolding begins
+begins_none [] h = refl
+begins_none (w ∷ ws) h = absurd (omega arith)
+
+pub begins_first : (ws : List ℕ) → 1 ≤ length ws → begins ws ≡ is_call (item_of (get_or ws 0 0))
+unfolding begins
+begins_first [] h = absurd (omega arith)
+begins_first (w ∷ ws) h = kind_of-is_call w
+
+-- what the code of check.rt needs of these
+pub ruleset scan_laws = (leaf-high, begins_none, begins_first, scan_stop, scan_more, scan_done)

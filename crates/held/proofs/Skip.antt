@@ -1,20 +1,18 @@
--- Skipping arguments by their words is skipping the arguments: `skip-args`, `argument-words`; and a scan's single step.
+-- Skipping arguments by their words is skipping the arguments: `skipped_args`, `stands_argument`; and a skip's single step.
 -- Assumes nothing.
-use Prim.Native.Nat.{ℕ, zero, suc, ◌+◌, ◌≤◌, ◌<◌}
-use mathlib.Core.Path.{◌≡◌, refl, sym, ap, ap₂, ◌∙◌}
-use mathlib.Core.List.{List, [], ◌∷◌, ◌++◌, append_assoc}
-use native.Mathlib.Omega.{arith}
-use native.Mathlib.Nat.{zero-add, add-zero, suc-add}
-use native.Mathlib.Numerals.{add-one}
-use lib.ListN.{length, get_or, take, drop, length-append}
-use lib.Seq.{slice, slice-cons, drop-append-add, take-append_seam, drop-append_seam}
+use Rattle.std.proofs.Common.{ℕ, zero, suc, ◌+◌, ◌-◌, ◌≤◌, ◌<◌, ◌≡◌, min, List, [], ◌∷◌, ◌++◌, length, get_or, take, drop, slice_range, refl, sym, ap, ap₂, ◌∙◌, append_assoc, arith, zero-add, add-zero, suc-add, length-append, length-drop, drop_of_length-le}
+use Rattle.std.proofs.Math.Decide.{dec_le}
+use Rattle.std.proofs.Math.Nat.{min-eq_left}
+use Rattle.std.proofs.Math.Seq.{slice, length-slice, drop-append-add, take-append_seam, drop-append_seam}
+use Rattle.std.proofs.lemmas.List.{drop_more, take_rest}
 use Rattle.meaning.specs.Held.{Expr, Args, ε, opening, closing, chr, wait, ∅, also, argument}
 use Rattle.meaning.specs.Valid.{Vocabulary, Count, Valid, ValidAll}
 use Rattle.held.specs.Words.{start_word, end_word, char_word, call_word, close_word, Room, flat, flats, Item, start_item, end_item, char_item, call_item, close_item, item_of}
 use Rattle.held.specs.Scan.{owe}
 use Rattle.held.specs.Skip.{args_len, Skipped, Stands}
-use Rattle.held.proofs.Area.{slice_none, slice_from, slice_to}
+use Rattle.held.proofs.Area.{slice_from, slice_to, slice_to_end, slice-slice_range}
 use Rattle.held.proofs.Words.{item_start, item_end, item_char, item_call, item_close, state_room, level_room}
+use Rattle.held.proofs.Scan.{owe_low}
 
 module _ (K : Vocabulary) where
   -- one word more
@@ -114,14 +112,73 @@ module _ (K : Vocabulary) where
           let p : z ≡ a + length (flat x) = omega (arith, s.ends, n) in
           ap (λ (k : ℕ). slice a k area) p ∙ slice_to a (length (flat x)) to area (omega (arith, s.high)) ∙ ap (take (length (flat x))) b ∙ take-append_seam (flat x) (close_word ∷ t.0)
 
--- a skip along an area
-module _ (K : Vocabulary) (area : List ℕ) (at to n : ℕ) where
-  pub skip_more : at < to → to ≤ length area → 0 < n → at + args_len K (slice at to area) n ≡ at + 1 + args_len K (slice (at + 1) to area) (owe K (item_of (get_or area at 0)) n)
-  skip_more h l k = rw (add-one, slice-cons at to area 0 h l, len_owed K (get_or area at 0) (slice (suc at) to area) n k) (omega arith)
-
-  pub skip_cut : to ≤ at → at + args_len K (slice at to area) n ≡ at
+-- with as many ends owed as there are words, or more, all are passed
+module _ (K : Vocabulary) where
+  pub len_long : (ws : List ℕ) (n : ℕ) → length ws ≤ n → args_len K ws n ≡ length ws
   unfolding args_len
-  skip_cut h = rw (slice_none at to area h, add-zero)
+  len_long [] n h = refl
+  len_long (w ∷ ws) zero h = absurd (omega arith)
+  len_long (w ∷ ws) (suc n) h = ap suc (len_long ws (owe K (item_of w) (suc n)) (omega (arith, owe_low K 0 (item_of w) (suc n))))
 
-  pub skip_none : n ≡ 0 → at + args_len K (slice at to area) n ≡ at
-  skip_none h = rw (h, len_none K (slice at to area), add-zero)
+  -- so a skip needs no number above the words that are left
+  len_capped : (ws : List ℕ) (n m : ℕ) → length ws ≤ m → Dec (n ≤ m) → args_len K ws (min n m) ≡ args_len K ws n
+  len_capped ws n m h (yes l) = ap (args_len K ws) (min-eq_left l)
+  len_capped ws n m h (no l) = len_long ws (min n m) (omega arith) ∙ sym (len_long ws n (omega arith))
+
+-- a skip along words, with no number above m
+module _ (K : Vocabulary) (words : List ℕ) (at n : ℕ) where
+  pub skip_more : (m : ℕ) → at < length words → length words ≤ m → 0 < n → at + 1 + args_len K (drop (at + 1) words) (min (owe K (item_of (get_or words at 0)) n) m) ≡ at + args_len K (drop at words) n
+  skip_more m h l k =
+      let r = drop (at + 1) words in
+      let b : length r ≤ m = omega (arith, length-drop (at + 1) words) in
+      let e = len_capped K r (owe K (item_of (get_or words at 0)) n) m b (dec_le _ m) in
+      let f : args_len K (drop at words) n ≡ suc (args_len K r (owe K (item_of (get_or words at 0)) n)) = ap (λ (ws : List ℕ). args_len K ws n) (drop_more words at 0 h) ∙ len_owed K (get_or words at 0) r n k in
+      omega (arith, e, f)
+
+  pub skip_end : length words ≤ at → at + args_len K (drop at words) n ≡ at
+  unfolding args_len
+  skip_end h = rw (drop_of_length-le words h, add-zero)
+
+  pub skip_none : n ≡ 0 → at + args_len K (drop at words) n ≡ at
+  skip_none h = rw (h, len_none K (drop at words), add-zero)
+
+-- what is said of the words `&area[from..to]`, said of the area
+module _ (K : Vocabulary) (area : List ℕ) (from to : ℕ) (low : from ≤ to) (high : to ≤ length area) where
+  pub skipped_part : (n : ℕ) → Skipped K area from to n (from + args_len K (slice_range area from to) n)
+  skipped_part n =
+      let l = len_most K (slice from to area) n in
+      let e = ap (λ (l : List ℕ). args_len K l n) (slice-slice_range from to area low) in
+      record { place = omega (arith, e); low = omega arith; high = omega (arith, l, e, length-slice from to area high) }
+
+  stands_slice : (j a z : ℕ) → Stands K (slice from to area) 0 (length (slice from to area)) j a z → Stands K area from to j (from + a) (from + z)
+  stands_slice j a z s =
+      let part = slice from to area in
+      let n = length-slice from to area high in
+      let b : slice a (length part) part ≡ slice (from + a) to area = slice_to_end a part ∙ sym (slice_from from a to area) in
+      let e : args_len K (slice a (length part) part) 1 ≡ args_len K (slice (from + a) to area) 1 = ap (λ (l : List ℕ). args_len K l 1) b in
+      record {
+        starts = omega (arith, s.starts, ap (λ (l : List ℕ). args_len K l j) (slice_to_end 0 part));
+        ends = omega (arith, s.ends, e);
+        low = omega arith;
+        order = omega (arith, s.order);
+        high = omega (arith, s.high, n);
+      }
+
+  pub stands_part : (j a z : ℕ) → Stands K (slice_range area from to) 0 (length (slice_range area from to)) j a z → Stands K area from to j (from + a) (from + z)
+  stands_part j a z s = stands_slice j a z (rw (slice-slice_range from to area low) s)
+
+-- the argument j among words, by its first place a and the n words up to its end
+pub stands_words : (K : Vocabulary) (words : List ℕ) (j a n m : ℕ) → a ≡ args_len K words j → n ≡ args_len K (drop a words) 1 → m ≡ n - 1 → Stands K words 0 (length words) j a (a + m)
+stands_words K words j a n m h k e =
+    let l = len_most K words j in
+    let b = len_most K (drop a words) 1 in
+    record {
+      starts = h ∙ omega (arith, ap (λ (l : List ℕ). args_len K l j) (slice_to_end 0 words));
+      ends = omega (arith, k, e, ap (λ (l : List ℕ). args_len K l 1) (slice_to_end a words));
+      low = omega arith;
+      order = omega arith;
+      high = omega (arith, h, k, l, b, length-drop a words);
+    }
+
+-- what the code of arguments.rt needs of these
+pub ruleset skip_laws = (skip_more, skip_end, skip_none, stands_words, len_most, take_rest)

@@ -1,12 +1,7 @@
 -- Each expression has one encoding: what its words say, its size, and reading it back. Assumes nothing.
-use Prim.Native.Nat.{ℕ, zero, suc, ◌+◌, ◌*◌, ◌≤◌, ◌<◌}
-use mathlib.Core.Path.{◌≡◌, refl, sym, ap, ap₂, ◌∙◌, fun_ext}
-use mathlib.Core.List.{List, [], ◌∷◌, ◌++◌, append_assoc, append-nil}
-use native.Mathlib.Omega.{arith}
-use native.Mathlib.Nat.{zero-add, add-zero}
-use native.Mathlib.Decide.{ℕ_discrete}
-use borrow.Author.Tests.{eq-eqb, ne_eqb}
-use lib.ListN.{length, replicate, length-append}
+use Rattle.std.proofs.Common.{ℕ, zero, suc, ◌+◌, ◌*◌, ◌≤◌, ◌<◌, ◌≡◌, List, [], ◌∷◌, ◌++◌, length, replicate, refl, sym, ap, ap₂, ◌∙◌, append_assoc, append-nil, arith, zero-add, add-zero, eq-eqb, ne_eqb, length-append}
+use Rattle.std.proofs.Math.Decide.{ℕ_discrete}
+use Rattle.std.proofs.Math.Path.{fun_ext}
 use Rattle.meaning.specs.Held.{Expr, Args, ε, opening, closing, chr, wait, ∅, also, join, blanks, initial}
 use Rattle.meaning.specs.Rules.{Table}
 use Rattle.meaning.specs.Count.{size, sizes}
@@ -55,6 +50,9 @@ module _ (w : ℕ) where
   -- a word that says something is the word of what it says
   pub word_item : (item_of w ≡ no_item → ⊥) → word_of (item_of w) ≡ w
   word_item h = by_kind h (ℕ_discrete w close_word) (ℕ_discrete (kind_of w) call_kind) (ℕ_discrete (kind_of w) start_kind) (ℕ_discrete (kind_of w) end_kind) (ℕ_discrete (kind_of w) char_kind)
+
+-- what a word says, by its kind
+pub ruleset kind_laws = (of_close, of_call, of_start, of_end, of_char, of_none)
 
 -- the words taken apart again
 module _ (n : ℕ) (h : n < payloads) where

@@ -1,3 +1,4 @@
 pub mod Words
+pub mod Read
 pub mod Scan
 pub mod Skip

@@ -1,43 +1,35 @@
 // Where the arguments of a call stand.
-ghost use Rattle.std.specs.Prelude.{◌≤◌, length};
+#![tactic(auto, using(crate::proofs::Skip::skip_laws))]
+
+ghost use Rattle.std.specs.Prelude.{◌≡◌, ◌≤◌, length};
 ghost use Rattle.table.specs.Index.{vocab};
-ghost use Rattle.held.specs.Skip.{Skipped, Stands};
+ghost use Rattle.held.specs.Skip.{args_len, Stands};
 
-use crate::check::owed_after;
+use crate::vocabulary::Vocabulary;
+use std::ops::Range;
 
-// From `from` up to `to`, that place not included.
-#[derive(Clone, Copy)]
-pub struct Span {
-    pub from: usize,
-    pub to: usize,
-}
-
-// The place after n arguments that begin at `from`, or `to`.
-pub fn skip_args(area: &[u32], index: &[u16], from: usize, to: usize, n: usize) -> usize
-    requires { (from ≤ to) × (to ≤ length area.now) × (to ≤ 8192) × (n ≤ 65535) }
-    ensures { Skipped (vocab index.now) area.now from to n result }
-{
-    let mut at = from;
-    let mut owed = n;
-    while 0 < owed {
-        if to <= at {
-            return at;
+impl<'a> Vocabulary<'a> {
+    // How many of the words n arguments take, or all.
+    pub fn skip_args(&self, words: &[u32], n: usize) -> usize
+        ensures same { result ≡ args_len (vocab self.now) words.now n }
+        ensures within { result ≤ length words.now }
+    {
+        let mut owed = n;
+        for (at, &w) in words.iter().enumerate() {
+            if owed == 0 {
+                return at;
+            }
+            owed = self.owed_after(w, owed);
         }
-        owed = owed_after(index, area[at], owed);
-        at += 1;
+        words.len()
     }
-    at
-}
 
-// Where the argument j of those that begin at `from` stands, its end not included.
-pub fn argument_at(area: &[u32], index: &[u16], from: usize, to: usize, j: usize) -> Span
-    requires { (from ≤ to) × (to ≤ length area.now) × (to ≤ 8192) × (j ≤ 65535) }
-    ensures { Stands (vocab index.now) area.now from to j result.from result.to }
-{
-    let a = skip_args(area, index, from, to, j);
-    let z = skip_args(area, index, a, to, 1);
-    if z <= a {
-        return Span { from: a, to: a };
+    // Where the argument j stands, its end not included.
+    pub fn argument_at(&self, words: &[u32], j: usize) -> Range<usize>
+        ensures { Stands (vocab self.now) words.now 0 (length words.now) j result.start result.end }
+    {
+        let start = self.skip_args(words, j);
+        let len = self.skip_args(&words[start..], 1);
+        start..start + len.saturating_sub(1)
     }
-    Span { from: a, to: z - 1 }
 }

@@ -1,105 +1,74 @@
 // Whether words are a held expression of a table: the words' part of refusal 13.
-ghost use Rattle.std.specs.Prelude.{◌≡◌, ◌+◌, ◌≤◌, ◌<◌, length, take};
-ghost use Rattle.alphabet.specs.Classes.{is_leaf};
+#![tactic(auto, using(crate::proofs::Read::item_said, crate::proofs::Scan::scan_laws), unfolding(crate::specs::Scan::fits, crate::specs::Scan::owe))]
+
+ghost use Rattle.std.specs.Prelude.{◌≡◌, ◌+◌, ◌≤◌, min};
 ghost use Rattle.table.specs.Index.{vocab};
 ghost use Rattle.held.specs.Words.{item_of};
 ghost use Rattle.held.specs.Scan.{call_fits, fits, owe, scan, begins, is_held};
 
-use crate::vocabulary::{names_in, rank_in, states_in};
-use crate::word::{
-    CALL, CHARACTER, CLOSE_WORD, END, START, kind_of, level_of, payload_of, state_of,
-};
-
-// What is owed after a word.
-pub fn owed_after(index: &[u16], w: u32, owed: usize) -> usize
-    requires { owed ≤ 4294967296 }
-    ensures { (result ≡ owe (vocab index.now) (item_of w) owed) × (result ≤ owed + 65535) }
-{
-    if w == CLOSE_WORD {
-        if owed == 0 {
-            return 0;
-        }
-        return owed - 1;
-    }
-    if kind_of(w) == CALL {
-        return rank_in(index, state_of(w)) + owed;
-    }
-    owed
-}
-
-fn is_leaf_code(c: usize) -> bool
-    ensures { result ≡ is_leaf c }
-{
-    if c < 256 {
-        return alphabet::is_leaf(c as u8);
-    }
-    false
-}
-
-// A call of a state at a level: both known.
-fn call_fits(index: &[u16], opened: usize, state: usize, level: usize) -> bool
-    requires { opened ≤ 255 }
-    ensures { result ≡ call_fits (vocab index.now) opened state level }
-{
-    if state < states_in(index) {
-        if 0 < level {
-            return level <= opened + 1;
-        }
-    }
-    false
-}
-
-fn word_fits(index: &[u16], opened: usize, w: u32, owed: usize) -> bool
-    requires { opened ≤ 255 }
-    ensures { result ≡ fits (vocab index.now) opened (item_of w) owed }
-{
-    if w == CLOSE_WORD {
-        return 0 < owed;
-    }
-    match kind_of(w) {
-        CALL => call_fits(index, opened, state_of(w), level_of(w)),
-        START | END => payload_of(w) < names_in(index),
-        CHARACTER => is_leaf_code(payload_of(w)),
-        _ => false,
-    }
-}
-
-// The first `held` words fit one after the other, and at their end nothing is owed.
-fn is_scanned(area: &[u32], held: usize, index: &[u16], opened: usize) -> bool
-    requires { (held ≤ length area.now) × (held ≤ 8192) × (opened ≤ 255) }
-    ensures { result ≡ scan (vocab index.now) opened (take held area.now) 0 }
-{
-    let mut at = 0;
-    let mut owed = 0;
-    while at < held {
-        let w = area[at];
-        if !word_fits(index, opened, w, owed) {
-            return false;
-        }
-        owed = owed_after(index, w, owed);
-        at += 1;
-    }
-    owed == 0
-}
+use crate::vocabulary::Vocabulary;
+use crate::word::Item;
 
 // No words, or a call's first.
-fn begins_held(area: &[u32], held: usize) -> bool
-    requires { held ≤ length area.now }
-    ensures { result ≡ begins (take held area.now) }
+fn begins_held(words: &[u32]) -> bool
+    ensures { result ≡ begins words.now }
 {
-    if held == 0 {
-        return true;
+    match words {
+        [] => true,
+        [w, ..] => matches!(Item::try_from(*w), Ok(Item::Call { .. })),
     }
-    kind_of(area[0]) == CALL
 }
 
-// Whether the first `held` words are a held expression of the index's table with so many elements open.
-pub fn is_held(area: &[u32], held: usize, index: &[u16], opened: usize) -> bool
-    requires { (held ≤ length area.now) × (held ≤ 8192) × (opened ≤ 255) }
-    ensures { result ≡ is_held (vocab index.now) opened (take held area.now) }
-{
-    if begins_held(area, held) {
-        return is_scanned(area, held, index, opened);
+impl<'a> Vocabulary<'a> {
+    // What is owed after a word, at most `usize::MAX`: no slice has as many words to pay more back.
+    pub fn owed_after(&self, w: u32, owed: usize) -> usize
+        ensures same { result ≡ min (owe (vocab self.now) (item_of w) owed) usize.MAX }
+        ensures few { result ≤ owed + 65535 }
+    {
+        match Item::try_from(w) {
+            Ok(Item::Call { state, .. }) => owed.saturating_add(usize::from(self.rank(state))),
+            Ok(Item::Close) => owed.saturating_sub(1),
+            _ => owed,
+        }
     }
-    false
+
+    // A call of a state at a level: both known.
+    fn call_fits(&self, opened: usize, state: usize, level: usize) -> bool
+        ensures { result ≡ call_fits (vocab self.now) opened state level }
+    {
+        state < usize::from(self.states()) && 0 < level && level - 1 <= opened
+    }
+
+    fn word_fits(&self, opened: usize, w: u32, owed: usize) -> bool
+        ensures { result ≡ fits (vocab self.now) opened (item_of w) owed }
+    {
+        match Item::try_from(w) {
+            Ok(Item::Start(name) | Item::End(name)) => name < usize::from(self.names()),
+            Ok(Item::Character(c)) => u8::try_from(c).is_ok_and(alphabet::is_leaf),
+            Ok(Item::Call { state, level }) => self.call_fits(opened, state, level),
+            Ok(Item::Close) => 0 < owed,
+            Err(_) => false,
+        }
+    }
+
+    // The words fit one after the other, and at their end nothing is owed.
+    fn is_scanned(&self, words: &[u32], opened: usize) -> bool
+        ensures { result ≡ scan (vocab self.now) opened words.now 0 }
+    {
+        let mut owed = 0;
+        for &w in words {
+            if !self.word_fits(opened, w, owed) {
+                return false;
+            }
+            owed = self.owed_after(w, owed);
+        }
+        owed == 0
+    }
+
+    // Whether the words are a held expression of the table with so many elements open.
+    pub fn is_held(&self, words: &[u32], opened: usize) -> bool
+        ensures { result ≡ is_held (vocab self.now) opened words.now }
+    {
+        begins_held(words) && self.is_scanned(words, opened)
+    }
 }

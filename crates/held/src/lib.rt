@@ -1,6 +1,6 @@
 // Held expressions as words of an area: their one encoding, the check that words are one, and where arguments stand.
 //
-// docs/ENCODING.md says how to read an area by hand.
+// word.rt says how to read an area by hand; docs/ENCODING.md, which will say more, is still to come.
 #![tactic(auto)]
 
 pub mod arguments;

@@ -1,6 +1,8 @@
-// What an index says of its table's names and states, read with no fault whatever the index holds.
-ghost use Rattle.std.specs.Prelude.{◌≡◌, ◌+◌, ◌<◌, get_or};
+// What a table lets its expressions mention, as its index says it, read with no fault whatever the index holds.
+ghost use Rattle.std.specs.Prelude.{◌≡◌, ℕ, List, get_or};
 ghost use Rattle.table.specs.Index.{names_in, states_in, rank_in};
+
+use std::marker::Model;
 
 const NAMES: usize = 0;
 
@@ -10,40 +12,53 @@ const RANKS: usize = 2;
 
 const MOST_STATES: usize = 64;
 
-fn wide(x: u16) -> usize
-    ensures { (result ≡ x) × (result < 65536) }
-{
-    x as usize
+// A contract sees the words of the index.
+#[derive(Drop)]
+pub struct Vocabulary<'a> {
+    index: &'a [u16],
 }
 
-// The index's word at a place, 0 past the end.
-fn index_at(index: &[u16], at: usize) -> usize
-    ensures { (result ≡ get_or index.now at 0) × (result < 65536) }
-{
-    if at < index.len() {
-        return wide(index[at]);
+impl<'a> Model for Vocabulary<'a> {
+    ghost Value = { List ℕ };
+
+    ghost view = { λ v. v.index.now };
+}
+
+impl<'a> Vocabulary<'a> {
+    pub fn new(index: &'a [u16]) -> Self
+        ensures { result ≡ index.now }
+    {
+        Vocabulary { index }
     }
-    0
-}
 
-pub fn names_in(index: &[u16]) -> usize
-    ensures { (result ≡ names_in index.now) × (result < 65536) }
-{
-    index_at(index, NAMES)
-}
-
-pub fn states_in(index: &[u16]) -> usize
-    ensures { (result ≡ states_in index.now) × (result < 65536) }
-{
-    index_at(index, STATES)
-}
-
-// The carried values of a state.
-pub fn rank_in(index: &[u16], q: usize) -> usize
-    ensures { (result ≡ rank_in index.now q) × (result < 65536) }
-{
-    if q < MOST_STATES {
-        return index_at(index, RANKS + q);
+    // The index's word at a place, 0 past the end.
+    fn at(&self, place: usize) -> u16
+        ensures { result ≡ get_or self.now place 0 }
+    {
+        self.index.get(place).copied().unwrap_or(0)
     }
-    0
+
+    // One function for each part of the index: a caller names the part, and not its place.
+    pub fn names(&self) -> u16
+        ensures { result ≡ names_in self.now }
+    {
+        self.at(NAMES)
+    }
+
+    pub fn states(&self) -> u16
+        ensures { result ≡ states_in self.now }
+    {
+        self.at(STATES)
+    }
+
+    // The carried values of a state.
+    pub fn rank(&self, q: usize) -> u16
+        ensures { result ≡ rank_in self.now q }
+    {
+        if q < MOST_STATES {
+            self.at(RANKS + q)
+        } else {
+            0
+        }
+    }
 }
