@@ -1,3 +1,4 @@
 pub mod Naming
 pub mod Sides
+pub mod Checking
 pub mod Examples

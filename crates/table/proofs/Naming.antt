@@ -79,6 +79,6 @@ pub rank_unknown : (l : List ℕ) (at n q : ℕ) → n ≤ q → slice_get (rank
 rank_unknown l at n q h = slice_get_past (ranks_at l at n) q (omega (arith, length-ranks l at n))
 
 -- what the check uses to prove the functions over states
-pub ruleset rank_laws = (rank-known, rank_unknown, unwrap_or-slice_get)
+pub ruleset rank_laws = (length-ranks, rank-known, rank_unknown, unwrap_or-slice_get)
 
-pub ruleset name_laws = (front_name, take_rest, take_min, drop_min, found_here, not_here, found_nowhere)
+pub ruleset name_laws = (front_name, take_rest, take_min, drop_min, length-names, found_here, not_here, found_nowhere)

@@ -4,5 +4,6 @@ pub mod Rules
 pub mod Names
 pub mod Items
 pub mod Tally
+pub mod Checked
 pub mod Index
 pub mod Examples

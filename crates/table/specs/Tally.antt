@@ -8,7 +8,7 @@
 use Rattle.std.specs.Prelude.{ℕ, ◌+◌, Bool, cond, ◌&&◌, ◌||◌, List, eqb, ltb, Option, None, Some, Result, Ok, Err}
 use Rattle.table.specs.Side as side
 use Rattle.table.specs.declared.refusal.Refusal.{Refusal}
-use Rattle.table.specs.declared.refusal.Refusal.TheVariants.{Limit, Rule}
+use Rattle.table.specs.declared.refusal.Refusal.TheVariants.{Form, Limit, Rule}
 use Rattle.table.specs.declared.side.Node.{Node}
 use Rattle.table.specs.declared.side.Node.TheVariants.{Element, Character}
 use Rattle.table.specs.declared.side.Tally.{Tally}
@@ -30,5 +30,6 @@ verdict d s over = cond (eqb d 0) (cond (over || ltb 64 s) 2 0) 3
 
 abbrev pub number : {A : Type 0} → Result A Refusal → ℕ
 number (Ok x) = 0
+number (Err Form) = 1
 number (Err Limit) = 2
 number (Err Rule) = 3

@@ -4,8 +4,11 @@
 // an accepted table stand, and the lookup of a rule's right side.
 #![tactic(auto)]
 
+mod check;
+mod field;
 mod item;
 pub mod names;
 mod refusal;
+mod rule;
 mod side;
 mod states;

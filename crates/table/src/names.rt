@@ -1,7 +1,7 @@
 // Names, compared where they stand.
 #![tactic(auto, using(crate::proofs::Naming::name_laws))]
 
-ghost use Rattle.std.specs.Prelude.{◌≡◌, ◌+◌, ◌≤◌, ℕ, List, get_or, drop};
+ghost use Rattle.std.specs.Prelude.{◌≡◌, ◌+◌, ◌≤◌, ℕ, List, length, get_or, drop};
 ghost use Rattle.table.specs.Names.{name_at, names_at, found};
 
 use std::marker::Model;
@@ -39,6 +39,12 @@ impl<'a> Names<'a> {
             table,
             count: count as u8,
         }
+    }
+
+    pub fn len(&self) -> usize
+        ensures { result ≡ length self.now }
+    {
+        usize::from(self.count)
     }
 
     // The number of a name, where it is one of these.

@@ -1,6 +1,8 @@
 // Why a table is refused, with document 01's numbers.
 #[derive(Clone, Copy, Debug, PartialEq, Eq, Hash)]
 pub enum Refusal {
+    // the bytes are not in the form of a table
+    Form = 1,
     // more of something than a table may have
     Limit = 2,
     // a rule says what it may not say

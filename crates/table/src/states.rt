@@ -1,7 +1,7 @@
 // States, and how many carried values each has.
 #![tactic(auto, using(crate::proofs::Naming::rank_laws))]
 
-ghost use Rattle.std.specs.Prelude.{◌≡◌, ℕ, List, slice_get};
+ghost use Rattle.std.specs.Prelude.{◌≡◌, ℕ, List, length, slice_get};
 ghost use Rattle.table.specs.Names.{ranks_at};
 
 use std::marker::Model;
@@ -24,6 +24,12 @@ impl<'a> States<'a> {
         ensures { result ≡ ranks_at fields.now 0 count }
     {
         States { fields, count }
+    }
+
+    pub fn len(&self) -> usize
+        ensures { result ≡ length self.now }
+    {
+        self.count
     }
 
     // How many carried values a state has; nothing of one that is none of these.

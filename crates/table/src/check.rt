@@ -1,0 +1,83 @@
+// The check of a table, field by field: refusals 1, 3 and 2.
+//
+// "Table order: total length first, then field by field; within a field 1, 3, 2."
+#![tactic(auto, using(crate::proofs::Checking::check_laws), unfolding(crate::specs::Format::name_refusal, crate::specs::Format::state_refusal, crate::specs::Format::end_refusal))]
+
+ghost use Rattle.std.specs.Prelude.{◌≡◌, ◌≤◌, length};
+ghost use Rattle.std.specs.List.{list_all};
+ghost use Rattle.alphabet.specs.Classes.{name_part};
+ghost use Rattle.table.specs.Format.{is_name, name_refusal, state_refusal, rule_refusal, end_refusal, refusal};
+ghost use Rattle.table.specs.Tally.{number};
+
+use crate::field::Field;
+use crate::names::Names;
+use crate::refusal::Refusal;
+use crate::rule::{Rule, rule_in};
+use crate::side::Scope;
+use crate::states::States;
+use alphabet::{is_name_part, is_name_start};
+
+const MOST_NAMES: usize = 128;
+
+const MOST_STATES: usize = 64;
+
+const MOST_VALUES: u8 = 4;
+
+const LONGEST_NAME: usize = 32;
+
+fn are_parts(bytes: &[u8]) -> bool
+    ensures { result ≡ list_all name_part bytes.now }
+{
+    bytes.iter().all(|b| is_name_part(*b))
+}
+
+fn is_name(bytes: &[u8]) -> bool
+    ensures { result ≡ is_name bytes.now }
+{
+    match bytes {
+        [first, rest @ ..] => is_name_start(*first) && are_parts(rest) && rest.len() < LONGEST_NAME,
+        [] => false,
+    }
+}
+
+// "a name; numbered from 0; no name twice", before any state; 129th name
+fn name_refusal(names: &Names, states: &States, content: &[u8]) -> Result<(), Refusal>
+    ensures { number result ≡ name_refusal names.now states.now content.now }
+{
+    if states.len() > 0 || !is_name(content) || names.find_name(content).is_some() {
+        return Err(Refusal::Form);
+    }
+    if names.len() < MOST_NAMES {
+        Ok(())
+    } else {
+        Err(Refusal::Limit)
+    }
+}
+
+// "one byte: carried values of a state, 0 to 4", before any rule; 65th state
+fn state_refusal(states: &States, next: usize, content: &[u8]) -> Result<(), Refusal>
+    ensures { number result ≡ state_refusal states.now next content.now }
+{
+    let [rank] = content else {
+        return Err(Refusal::Form);
+    };
+    if next > 0 || *rank > MOST_VALUES {
+        return Err(Refusal::Form);
+    }
+    if states.len() < MOST_STATES {
+        Ok(())
+    } else {
+        Err(Refusal::Limit)
+    }
+}
+
+// "length 0; nothing follows", after some state
+fn end_refusal(states: &States, content: &[u8]) -> Result<(), Refusal>
+    ensures { number result ≡ end_refusal states.now content.now }
+{
+    if states.len() > 0 && content.is_empty() {
+        Ok(())
+    } else {
+        Err(Refusal::Form)
+    }
+}
