@@ -1,27 +1,40 @@
 // The check of a table, field by field: refusals 1, 3 and 2.
 //
 // "Table order: total length first, then field by field; within a field 1, 3, 2."
-#![tactic(auto, using(crate::proofs::Checking::check_laws), unfolding(crate::specs::Format::name_refusal, crate::specs::Format::state_refusal, crate::specs::Format::end_refusal))]
+#![tactic(auto, using(crate::proofs::Checking::check_laws), unfolding(crate::specs::Format::name_refusal, crate::specs::Format::state_refusal, crate::specs::Format::end_refusal, crate::specs::Format::rule_refusal, crate::specs::Format::refusal))]
 
 ghost use Rattle.std.specs.Prelude.{◌≡◌, ◌≤◌, length};
 ghost use Rattle.std.specs.List.{list_all};
 ghost use Rattle.alphabet.specs.Classes.{name_part};
-ghost use Rattle.table.specs.Format.{is_name, name_refusal, state_refusal, rule_refusal, end_refusal, refusal};
+ghost use Rattle.table.specs.Format.{is_name, name_refusal, state_refusal, rule_known, rule_refusal, end_refusal, refusal};
+ghost use Rattle.table.specs.Checked.{rule_meant, names_seen, ranks_seen};
 ghost use Rattle.table.specs.Tally.{number};
 
 use crate::field::Field;
 use crate::names::Names;
 use crate::refusal::Refusal;
 use crate::rule::{Rule, rule_in};
+use crate::seen::Seen;
 use crate::side::Scope;
 use crate::states::States;
 use alphabet::{is_name_part, is_name_start};
+
+// the tags of fields
+const NAME: u8 = 1;
+
+const STATE: u8 = 2;
+
+const RULE: u8 = 3;
+
+const END: u8 = 4;
 
 const MOST_NAMES: usize = 128;
 
 const MOST_STATES: usize = 64;
 
 const MOST_VALUES: u8 = 4;
+
+const MOST_PATTERN: u8 = 3;
 
 const LONGEST_NAME: usize = 32;
 
@@ -71,6 +84,38 @@ fn state_refusal(states: &States, next: usize, content: &[u8]) -> Result<(), Ref
     }
 }
 
+// Whether a rule says what it may: a known state, pattern and name, and a place behind the rules before it.
+fn rule_known(names: usize, states: usize, next: usize, rule: &Rule) -> bool
+    ensures { result ≡ rule_known names states next (rule_meant rule.now) }
+{
+    usize::from(rule.state) < states
+        && rule.pattern <= MOST_PATTERN
+        && (rule.pattern != 1 || usize::from(rule.name) < names)
+        && next <= rule.key()
+}
+
+// "unknown .. state, name, .. or pattern"; "rules not increasing"; and what the right side says, after some state
+fn rule_refusal(names: usize, states: States, next: usize, content: &[u8]) -> Result<(), Refusal>
+    requires { length content.now ≤ 32768 }
+    ensures { number result ≡ rule_refusal names states.entry next content.now }
+{
+    if states.len() == 0 {
+        return Err(Refusal::Form);
+    }
+    let rule = rule_in(content).ok_or(Refusal::Form)?;
+    if !rule_known(names, states.len(), next, &rule) {
+        return Err(Refusal::Rule);
+    }
+    let values = states.rank(rule.state).map_or(0, usize::from);
+    let scope = Scope {
+        names,
+        states,
+        pattern: usize::from(rule.pattern),
+        values,
+    };
+    scope.side(rule.side)
+}
+
 // "length 0; nothing follows", after some state
 fn end_refusal(states: &States, content: &[u8]) -> Result<(), Refusal>
     ensures { number result ≡ end_refusal states.now content.now }
@@ -79,5 +124,23 @@ fn end_refusal(states: &States, content: &[u8]) -> Result<(), Refusal>
         Ok(())
     } else {
         Err(Refusal::Form)
+    }
+}
+
+impl<'a> Seen<'a> {
+    // Why a further field is refused.
+    fn refusal(&self, field: &Field) -> Result<(), Refusal>
+        requires { length field.now.content.now ≤ 32768 }
+        ensures { number result ≡ refusal (names_seen self.now) (ranks_seen self.now) self.now.next field.now.tag field.now.content.now }
+    {
+        let names = Names::new(self.table, self.names);
+        let states = States::new(&self.table[self.base..], self.states);
+        match field.tag {
+            NAME => name_refusal(&names, &states, field.content),
+            STATE => state_refusal(&states, self.next, field.content),
+            RULE => rule_refusal(names.len(), states, self.next, field.content),
+            END => end_refusal(&states, field.content),
+            _ => Err(Refusal::Form),
+        }
     }
 }

@@ -10,5 +10,6 @@ mod item;
 pub mod names;
 mod refusal;
 mod rule;
+mod seen;
 mod side;
 mod states;

@@ -1,6 +1,7 @@
 // The content of a rule's field.
 ghost use Rattle.std.specs.Prelude.{◌≡◌, true, false, MatchOption};
 ghost use Rattle.table.specs.Format.{rule_of, rule_holds, key};
+ghost use Rattle.table.specs.Checked.{rule_meant};
 
 // "state, pattern, right side", with a name after pattern 01; the name is 0 under the other patterns.
 #[derive(Clone, Copy)]
@@ -12,7 +13,7 @@ pub struct Rule<'a> {
 }
 
 pub fn rule_in(content: &[u8]) -> Option<Rule<'_>>
-    ensures { MatchOption result (rule_holds content.now ≡ false) (λ r. (rule_holds content.now ≡ true) × (rule_of content.now ≡ record { state = r.state; pattern = r.pattern; name = r.name; side = r.side.now })) }
+    ensures { MatchOption result (rule_holds content.now ≡ false) (λ r. (rule_holds content.now ≡ true) × (rule_of content.now ≡ rule_meant r)) }
 {
     match content {
         [state, 1, name, side @ ..] => Some(Rule {
@@ -35,7 +36,7 @@ pub fn rule_in(content: &[u8]) -> Option<Rule<'_>>
 impl<'a> Rule<'a> {
     // The rule's place in the order by state, then pattern, then name.
     pub fn key(&self) -> usize
-        ensures { result ≡ key (record { state = self.now.state; pattern = self.now.pattern; name = self.now.name; side = self.now.side.now }) }
+        ensures { result ≡ key (rule_meant self.now) }
     {
         usize::from(self.state) * 1024 + usize::from(self.pattern) * 256 + usize::from(self.name)
     }
