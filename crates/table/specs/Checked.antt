@@ -1,13 +1,14 @@
 -- The check of a table field by field, as the code does it. Assumes nothing.
 --
 --   rule_meant    the rule of `Format` that a rule of the code is
---   names_seen    the names that were read so far; `ranks_seen`: the carried values of the states
+--   names_read    the names that were read so far; `ranks_read`: the carried values of the states
+--   names_with, base_with, states_with, next_with   the numbers of parts with a field more, which begins at a place
 --   front_field   the field that bytes begin with: its tag, its content, and the bytes behind it; nothing where they are too few
 use Rattle.table.specs.Format as format
 use Rattle.table.specs.declared.rule.Rule as code
 use Rattle.table.specs.Names.{names_at, ranks_at}
-use Rattle.table.specs.declared.seen.Seen.{Seen}
-use Rattle.std.specs.Prelude.{ℕ, ◌+◌, ◌*◌, cond, List, [], ◌∷◌, leb, length, take, drop, Option, None, Some}
+use Rattle.table.specs.declared.parts.Parts.{Parts}
+use Rattle.std.specs.Prelude.{ℕ, suc, ◌+◌, ◌*◌, cond, ◌&&◌, eqb, List, [], ◌∷◌, leb, length, take, drop, Option, None, Some}
 
 -- "one tag byte, two length bytes (high byte first), then that many bytes"
 abbrev pub cut_field : (b n : ℕ) → List ℕ → Option (ℕ × List ℕ × List ℕ)
@@ -22,8 +23,20 @@ front_field (b ∷ h ∷ l ∷ k) = cut_field b (h * 256 + l) k
 abbrev pub rule_meant : code.Rule → format.Rule
 rule_meant r = record { state = r.state; pattern = r.pattern; name = r.name; side = r.side.now }
 
-abbrev pub names_seen : Seen → List (List ℕ)
-names_seen s = names_at s.table.now 0 s.names
+abbrev pub names_read : Parts → List (List ℕ)
+names_read s = names_at s.table.now 0 s.names
 
-abbrev pub ranks_seen : Seen → List ℕ
-ranks_seen s = ranks_at (drop s.base s.table.now) 0 s.states
+abbrev pub ranks_read : Parts → List ℕ
+ranks_read s = ranks_at (drop s.base s.table.now) 0 s.states
+
+abbrev pub names_with : (tag n : ℕ) → ℕ
+names_with tag n = cond (eqb tag 1) (n + 1) n
+
+abbrev pub base_with : (tag at s b : ℕ) → ℕ
+base_with tag at s b = cond (eqb tag 2 && eqb s 0) at b
+
+abbrev pub states_with : (tag s : ℕ) → ℕ
+states_with tag s = cond (eqb tag 2) (s + 1) s
+
+abbrev pub next_with : ℕ → List ℕ → ℕ → ℕ
+next_with tag c k = cond (eqb tag 3 && format.rule_holds c) (suc (format.key (format.rule_of c))) k

@@ -3,18 +3,18 @@
 // "Table order: total length first, then field by field; within a field 1, 3, 2."
 #![tactic(auto, using(crate::proofs::Checking::check_laws), unfolding(crate::specs::Format::name_refusal, crate::specs::Format::state_refusal, crate::specs::Format::end_refusal, crate::specs::Format::rule_refusal, crate::specs::Format::refusal))]
 
-ghost use Rattle.std.specs.Prelude.{◌≡◌, ◌≤◌, length};
+ghost use Rattle.std.specs.Prelude.{◌≡◌, ◌<◌, ◌≤◌, length};
 ghost use Rattle.std.specs.List.{list_all};
 ghost use Rattle.alphabet.specs.Classes.{name_part};
 ghost use Rattle.table.specs.Format.{is_name, name_refusal, state_refusal, rule_known, rule_refusal, end_refusal, refusal};
-ghost use Rattle.table.specs.Checked.{rule_meant, names_seen, ranks_seen};
+ghost use Rattle.table.specs.Checked.{rule_meant, names_read, ranks_read, names_with, base_with, states_with, next_with};
 ghost use Rattle.table.specs.Tally.{number};
 
 use crate::field::Field;
 use crate::names::Names;
 use crate::refusal::Refusal;
 use crate::rule::{Rule, rule_in};
-use crate::seen::Seen;
+use crate::parts::Parts;
 use crate::side::Scope;
 use crate::states::States;
 use alphabet::{is_name_part, is_name_start};
@@ -127,11 +127,13 @@ fn end_refusal(states: &States, content: &[u8]) -> Result<(), Refusal>
     }
 }
 
-impl<'a> Seen<'a> {
+impl<'a> Parts<'a> {
     // Why a further field is refused.
     fn refusal(&self, field: &Field) -> Result<(), Refusal>
-        requires { length field.now.content.now ≤ 32768 }
-        ensures { number result ≡ refusal (names_seen self.now) (ranks_seen self.now) self.now.next field.now.tag field.now.content.now }
+        requires names { self.now.names ≤ 128 }
+        requires base { self.now.base ≤ length self.now.table.now }
+        requires content { length field.now.content.now ≤ 32768 }
+        ensures { number result ≡ refusal (names_read self.now) (ranks_read self.now) self.now.next field.now.tag field.now.content.now }
     {
         let names = Names::new(self.table, self.names);
         let states = States::new(&self.table[self.base..], self.states);
@@ -141,6 +143,34 @@ impl<'a> Seen<'a> {
             RULE => rule_refusal(names.len(), states, self.next, field.content),
             END => end_refusal(&states, field.content),
             _ => Err(Refusal::Form),
+        }
+    }
+
+    // With a field more, which begins at a place of the table.
+    fn with(&self, field: &Field, at: usize) -> Self
+        requires names { field.now.tag ≡ 1 → self.now.names < 128 }
+        requires states { field.now.tag ≡ 2 → self.now.states < 64 }
+        ensures table { result.table.now ≡ self.now.table.now }
+        ensures names { result.names ≡ names_with field.now.tag self.now.names }
+        ensures base { result.base ≡ base_with field.now.tag at self.now.states self.now.base }
+        ensures states { result.states ≡ states_with field.now.tag self.now.states }
+        ensures next { result.next ≡ next_with field.now.tag field.now.content.now self.now.next }
+    {
+        match field.tag {
+            NAME => Parts {
+                names: self.names + 1,
+                ..*self
+            },
+            STATE => Parts {
+                base: if self.states == 0 { at } else { self.base },
+                states: self.states + 1,
+                ..*self
+            },
+            RULE => Parts {
+                next: rule_in(field.content).map_or(self.next, |rule| rule.key() + 1),
+                ..*self
+            },
+            _ => *self,
         }
     }
 }
