@@ -1,4 +1,5 @@
 pub mod Naming
 pub mod Sides
 pub mod Checking
+pub mod Reading
 pub mod Examples

@@ -3,12 +3,15 @@
 --   rule_meant    the rule of `Format` that a rule of the code is
 --   names_read    the names that were read so far; `ranks_read`: the carried values of the states
 --   names_with, base_with, states_with, next_with   the numbers of parts with a field more, which begins at a place
+--   answer        number and place of an answer for a table of so many bytes
 --   front_field   the field that bytes begin with: its tag, its content, and the bytes behind it; nothing where they are too few
 use Rattle.table.specs.Format as format
 use Rattle.table.specs.declared.rule.Rule as code
 use Rattle.table.specs.Names.{names_at, ranks_at}
 use Rattle.table.specs.declared.parts.Parts.{Parts}
-use Rattle.std.specs.Prelude.{ℕ, suc, ◌+◌, ◌*◌, cond, ◌&&◌, eqb, List, [], ◌∷◌, leb, length, take, drop, Option, None, Some}
+use Rattle.std.specs.Prelude.{ℕ, suc, ◌+◌, ◌*◌, cond, ◌&&◌, eqb, List, [], ◌∷◌, leb, length, take, drop, Option, None, Some, Result, Ok, Err}
+use Rattle.table.specs.Tally.{refusal_number}
+use Rattle.table.specs.declared.refusal.Refused.{Refused}
 
 -- "one tag byte, two length bytes (high byte first), then that many bytes"
 abbrev pub cut_field : (b n : ℕ) → List ℕ → Option (ℕ × List ℕ × List ℕ)
@@ -40,3 +43,7 @@ states_with tag s = cond (eqb tag 2) (s + 1) s
 
 abbrev pub next_with : ℕ → List ℕ → ℕ → ℕ
 next_with tag c k = cond (eqb tag 3 && format.rule_holds c) (suc (format.key (format.rule_of c))) k
+
+abbrev pub answer : ℕ → Result Parts Refused → ℕ × ℕ
+answer n (Ok p) = (0, n)
+answer n (Err r) = (refusal_number r.why, r.at)

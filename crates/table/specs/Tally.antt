@@ -4,7 +4,8 @@
 --   ends        the ends owed after an item, with d owed before it; nothing where it is an end that is not owed
 --   tallied     a tally with one item more; nothing where the item may not stand there
 --   verdict     what the end of a right side comes to, with d ends owed, s words, and `over`
---   number      document 01's number of an answer, 0 of acceptance
+--   refusal_number   document 01's number of a refusal
+--   number      of an answer: 0 of acceptance
 use Rattle.std.specs.Prelude.{ℕ, ◌+◌, Bool, cond, ◌&&◌, ◌||◌, List, eqb, ltb, Option, None, Some, Result, Ok, Err}
 use Rattle.table.specs.Side as side
 use Rattle.table.specs.declared.refusal.Refusal.{Refusal}
@@ -28,8 +29,11 @@ tallied names ranks p n t i =
 abbrev pub verdict : (d s : ℕ) → Bool → ℕ
 verdict d s over = cond (eqb d 0) (cond (over || ltb 64 s) 2 0) 3
 
+abbrev pub refusal_number : Refusal → ℕ
+refusal_number Form = 1
+refusal_number Limit = 2
+refusal_number Rule = 3
+
 abbrev pub number : {A : Type 0} → Result A Refusal → ℕ
 number (Ok x) = 0
-number (Err Form) = 1
-number (Err Limit) = 2
-number (Err Rule) = 3
+number (Err r) = refusal_number r

@@ -1,20 +1,20 @@
 // The check of a table, field by field: refusals 1, 3 and 2.
 //
 // "Table order: total length first, then field by field; within a field 1, 3, 2."
-#![tactic(auto, using(crate::proofs::Checking::check_laws), unfolding(crate::specs::Format::name_refusal, crate::specs::Format::state_refusal, crate::specs::Format::end_refusal, crate::specs::Format::rule_refusal, crate::specs::Format::refusal))]
+#![tactic(auto, using(crate::proofs::Checking::check_laws, crate::proofs::Reading::reading_laws), unfolding(crate::specs::Format::name_refusal, crate::specs::Format::state_refusal, crate::specs::Format::end_refusal, crate::specs::Format::rule_refusal, crate::specs::Format::refusal))]
 
-ghost use Rattle.std.specs.Prelude.{◌≡◌, ◌<◌, ◌≤◌, length};
+ghost use Rattle.std.specs.Prelude.{◌≡◌, ◌-◌, ◌<◌, ◌≤◌, cond, eqb, length};
 ghost use Rattle.std.specs.List.{list_all};
 ghost use Rattle.alphabet.specs.Classes.{name_part};
-ghost use Rattle.table.specs.Format.{is_name, name_refusal, state_refusal, rule_known, rule_refusal, end_refusal, refusal};
-ghost use Rattle.table.specs.Checked.{rule_meant, names_read, ranks_read, names_with, base_with, states_with, next_with};
+ghost use Rattle.table.specs.Format.{is_name, name_refusal, state_refusal, rule_known, rule_refusal, end_refusal, refusal, read};
+ghost use Rattle.table.specs.Checked.{rule_meant, names_read, ranks_read, names_with, base_with, states_with, next_with, answer};
 ghost use Rattle.table.specs.Tally.{number};
 
-use crate::field::Field;
+use crate::field::{Field, first_field};
 use crate::names::Names;
-use crate::refusal::Refusal;
-use crate::rule::{Rule, rule_in};
 use crate::parts::Parts;
+use crate::refusal::{Refusal, Refused};
+use crate::rule::{Rule, rule_in};
 use crate::side::Scope;
 use crate::states::States;
 use alphabet::{is_name_part, is_name_start};
@@ -27,6 +27,8 @@ const STATE: u8 = 2;
 const RULE: u8 = 3;
 
 const END: u8 = 4;
+
+const LONGEST_TABLE: usize = 32768;
 
 const MOST_NAMES: usize = 128;
 
@@ -172,5 +174,61 @@ impl<'a> Parts<'a> {
             },
             _ => *self,
         }
+    }
+}
+
+// What an accepted table has; or why it is refused, and where.
+pub fn check(table: &[u8]) -> Result<Parts<'_>, Refused>
+    ensures { answer (length table.now) result ≡ ((read table.now).number, (read table.now).place) }
+{
+    if table.len() > LONGEST_TABLE {
+        return Err(Refused {
+            why: Refusal::Limit,
+            at: 0,
+        });
+    }
+    let mut parts = Parts {
+        table,
+        names: 0,
+        base: 0,
+        states: 0,
+        next: 0,
+    };
+    let mut rest = table;
+    while !rest.is_empty() {
+        let at = table.len() - rest.len();
+        let Some(field) = first_field(rest) else {
+            return Err(Refused {
+                why: Refusal::Form,
+                at,
+            });
+        };
+        if let Err(why) = parts.refusal(&field) {
+            return Err(Refused { why, at });
+        }
+        if field.tag == END {
+            return ended(parts, field.behind);
+        }
+        parts = parts.with(&field, at);
+        rest = field.behind;
+    }
+    Err(Refused {
+        why: Refusal::Form,
+        at: table.len(),
+    })
+}
+
+// Behind the end field nothing may follow.
+fn ended<'a>(parts: Parts<'a>, behind: &[u8]) -> Result<Parts<'a>, Refused>
+    requires { length behind.now ≤ length parts.table.now }
+    ensures { answer (length parts.entry.table.now) result ≡ (cond (eqb (length behind.now) 0) 0 1, length parts.entry.table.now - length behind.now) }
+{
+    if behind.is_empty() {
+        Ok(parts)
+    } else {
+        Err(Refused {
+            why: Refusal::Form,
+            at: parts.table.len() - behind.len(),
+        })
     }
 }

@@ -1,15 +1,15 @@
-// The rule table: its names, its states, and the right sides of its rules, read where they stand.
+// The rule table: checked byte for byte, then read in place.
 //
-// To come: the check, which gives the number and the place of document 01's refusals 1, 2 and 3, an index of where the parts of
-// an accepted table stand, and the lookup of a rule's right side.
+// `check` gives the number and the place of document 01's refusals 1, 2 and 3, or what an accepted table has. To come: an index
+// of where the parts of an accepted table stand, and the lookup of a rule's right side.
 #![tactic(auto)]
 
-mod check;
+pub mod check;
 mod field;
 mod item;
 pub mod names;
-mod parts;
-mod refusal;
+pub mod parts;
+pub mod refusal;
 mod rule;
 mod side;
-mod states;
+pub mod states;

@@ -8,3 +8,10 @@ pub enum Refusal {
     // a rule says what it may not say
     Rule = 3,
 }
+
+// A refusal, and its place: the first byte of the field that is refused, or where one is wanted.
+#[derive(Clone, Copy, Debug, PartialEq, Eq, Hash)]
+pub struct Refused {
+    pub why: Refusal,
+    pub at: usize,
+}
