@@ -2,4 +2,5 @@ pub mod Naming
 pub mod Sides
 pub mod Checking
 pub mod Reading
+pub mod Encode
 pub mod Examples

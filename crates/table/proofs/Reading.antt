@@ -42,7 +42,7 @@ module _ (x h l : ℕ) (k : List ℕ) where
   abbrev size : ℕ
   size = h * 256 + l
 
-  enough : (at : ℕ) → size ≤ length k → fields_from (x ∷ h ∷ l ∷ k) at 0 ≡ field at x (take size k) (fields_from (drop size k) (at + 3 + size) 0)
+  pub enough : (at : ℕ) → size ≤ length k → fields_from (x ∷ h ∷ l ∷ k) at 0 ≡ field at x (take size k) (fields_from (drop size k) (at + 3 + size) 0)
   enough at m =
       let e : whole (h ∷ l ∷ k) ≡ true = le-leb (2 + size) (suc (suc (length k))) (omega (arith, m)) in
       first-field x (h ∷ l ∷ k) at
@@ -214,15 +214,15 @@ pub record Reading (l rest : List ℕ) (n b s k : ℕ) : Type 0 where
 
 -- one field of the check
 module _ (C : Contents) (p t : ℕ) (c : List ℕ) (fs : Fields) where
-  check-refused : (r : ℕ) → refusal C.names C.ranks C.next t c ≡ suc r → check_fields C (field p t c fs) ≡ record { number = suc r; place = p; contents = C }
+  pub check-refused : (r : ℕ) → refusal C.names C.ranks C.next t c ≡ suc r → check_fields C (field p t c fs) ≡ record { number = suc r; place = p; contents = C }
   unfolding check_fields
   check-refused r e = rw (e, check_fields)
 
-  check-end : t ≡ 4 → refusal C.names C.ranks C.next t c ≡ 0 → check_fields C (field p t c fs) ≡ behind_end C fs
+  pub check-end : t ≡ 4 → refusal C.names C.ranks C.next t c ≡ 0 → check_fields C (field p t c fs) ≡ behind_end C fs
   unfolding check_fields
   check-end z e = rw (e, eq-eqb t 4 z, check_fields)
 
-  check-on : (t ≡ 4 → ⊥) → refusal C.names C.ranks C.next t c ≡ 0 → check_fields C (field p t c fs) ≡ check_fields (added C t c) fs
+  pub check-on : (t ≡ 4 → ⊥) → refusal C.names C.ranks C.next t c ≡ 0 → check_fields C (field p t c fs) ≡ check_fields (added C t c) fs
   unfolding check_fields
   check-on z e = rw (e, ne_eqb t 4 z, check_fields)
 
@@ -242,7 +242,7 @@ abbrev pub outcome : List ℕ → ℕ × ℕ
 outcome l = ((read l).number, (read l).place)
 
 module _ (l : List ℕ) (h : length l ≤ 32768) where
-  read-fields : read l ≡ check_fields nothing (fields l)
+  pub read-fields : read l ≡ check_fields nothing (fields l)
   unfolding read
   read-fields = rw (le-leb (length l) 32768 h, read)
 

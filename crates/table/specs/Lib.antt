@@ -5,5 +5,6 @@ pub mod Names
 pub mod Items
 pub mod Tally
 pub mod Checked
+pub mod Encode
 pub mod Index
 pub mod Examples
