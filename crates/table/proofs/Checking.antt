@@ -9,6 +9,7 @@ use mathlib.Core.Bool.{and-false}
 use Rattle.std.proofs.lemmas.List.{take_rest}
 use Rattle.table.specs.Format.{none_yet, counted, same_bytes, number_of, all_parts, is_name}
 use Rattle.table.specs.Names.{found}
+use Rattle.table.proofs.Naming.{number-most}
 
 pub none_yet-none : (l : List ℕ) → length l ≡ 0 → none_yet l ≡ true
 none_yet-none [] h = refl
@@ -17,15 +18,6 @@ none_yet-none (x ∷ l) h = absurd (omega arith)
 pub none_yet-some : (l : List ℕ) → 0 < length l → none_yet l ≡ false
 none_yet-some [] h = absurd (omega arith)
 none_yet-some (x ∷ l) h = refl
-
-counted-most : (t : Bool) (n k : ℕ) → n ≤ k → counted t n ≤ suc k
-counted-most true n k h = omega arith
-counted-most false n k h = omega arith
-
-number-most : (names : List (List ℕ)) (b : List ℕ) → number_of names b ≤ length names
-unfolding number_of
-number-most [] b = omega arith
-number-most (a ∷ names) b = counted-most (same_bytes a b) (number_of names b) (length names) (number-most names b)
 
 -- a name that is none of the names
 module _ (names : List (List ℕ)) (b : List ℕ) where

@@ -1,9 +1,12 @@
 -- Names as they stand in a table: which one some bytes are; and carried values by their places. Assumes nothing.
-use Rattle.std.proofs.Common.{ℕ, zero, suc, ◌≡◌, ◌+◌, ◌*◌, ◌≤◌, ◌<◌, refl, sym, ap, ◌∙◌, Bool, true, false, ◌&&◌, List, [], ◌∷◌, length, get_or, take, drop, add_assoc, add-zero, nat_eq, Some, None, arith, ◌-◌}
-use Rattle.std.proofs.lemmas.Bool.{lt-ltb, le-ltb}
+use Rattle.std.proofs.Common.{ℕ, zero, suc, ◌≡◌, ◌+◌, ◌*◌, ◌≤◌, ◌<◌, refl, sym, ap, ◌∙◌, Bool, true, false, ◌&&◌, List, [], ◌∷◌, length, get_or, take, drop, add_assoc, add-zero, nat_eq, Some, None, arith, ◌-◌, cond}
+use Rattle.std.proofs.lemmas.Bool.{lt-ltb, le-ltb, ltb-false}
+use lib.Dec.{ltb}
 use Rattle.std.specs.List.{slice_get}
 use Rattle.std.proofs.lemmas.Option.{slice_get-get_or, slice_get_past, unwrap_or-slice_get}
 use Rattle.std.proofs.lemmas.List.{get_or-drop, drop-drop, drop-take, drop_min, take_min, take_rest}
+use Rattle.std.proofs.Common.{min, length-drop, drop_of_length-le}
+use Rattle.std.proofs.Math.Seq.{take-nil}
 use lib.Pointwise.{pointwise}
 use Rattle.table.specs.Format.{same_bytes, counted, number_of}
 use Rattle.table.specs.Names.{name_at, names_at, ranks_at, found}
@@ -20,6 +23,13 @@ pointwise-same_bytes (b ∷ x) (c ∷ y) = ap (λ (t : Bool). nat_eq b c && t) (
 pub front_name : (l : List ℕ) → take (get_or l 2 0) (drop 3 l) ≡ name_at l 0
 unfolding name_at
 front_name l = sym (drop-take 3 (get_or l 2 0) l)
+
+-- fewer bytes than a field's head: no name
+pub name_short : (l : List ℕ) → length l < 3 → ◌≡◌ {A = List ℕ} [] (name_at l 0)
+name_short l h = sym (take-nil (get_or l 2 0)) ∙ sym (ap (take (get_or l 2 0)) (drop_of_length-le l {i = 3} (omega arith))) ∙ front_name l
+
+pub name_rest : (l r : List ℕ) (k n : ℕ) → k ≡ get_or l 2 0 → n ≡ min k (length (take (length l - 3) (drop 3 l))) → r ≡ take n (take (length l - 3) (drop 3 l)) → r ≡ name_at l 0
+name_rest l r k n g e h = h ∙ rw (e, take_rest l 3, take_min k (drop 3 l), g) (front_name l)
 
 -- what stands behind the first bytes of a table
 module _ (l : List ℕ) (i : ℕ) where
@@ -60,6 +70,31 @@ module _ (l b rest first : List ℕ) (n count : ℕ) (p : number_of (names_at l 
   pub found_nowhere : count ≤ n → None ≡ found (names_at l 0 count) b
   found_nowhere h = rw (le-ltb (number_of (names_at l 0 count) b) (length (names_at l 0 count)) (omega (arith, p, length-names l 0 count)))
 
+counted-most : (t : Bool) (n k : ℕ) → n ≤ k → counted t n ≤ suc k
+counted-most true n k h = omega arith
+counted-most false n k h = omega arith
+
+pub number-most : (names : List (List ℕ)) (b : List ℕ) → number_of names b ≤ length names
+unfolding number_of
+number-most [] b = omega arith
+number-most (a ∷ names) b = counted-most (same_bytes a b) (number_of names b) (length names) (number-most names b)
+
+-- what is found is the number, and where nothing is found the number is how many names there are
+module _ (names : List (List ℕ)) (b : List ℕ) where
+  number_by : (t : Bool) → ltb (number_of names b) (length names) ≡ t → (n : ℕ) → Some n ≡ cond t (Some (number_of names b)) None → (n ≡ number_of names b) × (n ≤ length names)
+  number_by true e n h = let p : n ≡ number_of names b = cc in (p, omega (arith, number-most names b))
+  number_by false e n h = cc
+
+  pub found_number : (n : ℕ) → Some n ≡ found names b → (n ≡ number_of names b) × (n ≤ length names)
+  found_number n h = number_by (ltb (number_of names b) (length names)) refl n h
+
+  none_by : (t : Bool) → ltb (number_of names b) (length names) ≡ t → None ≡ cond t (Some (number_of names b)) None → number_of names b ≡ length names
+  none_by true e h = cc
+  none_by false e h = omega (arith, number-most names b, ltb-false (number_of names b) (length names) e)
+
+  pub found_none : None ≡ found names b → number_of names b ≡ length names
+  found_none h = none_by (ltb (number_of names b) (length names)) refl h
+
 -- the carried values of states by their places
 pub length-ranks : (l : List ℕ) (at n : ℕ) → length (ranks_at l at n) ≡ n
 unfolding ranks_at
@@ -78,7 +113,16 @@ rank-known l at n q h = slice_get-get_or (ranks_at l at n) q 0 (omega (arith, le
 pub rank_unknown : (l : List ℕ) (at n q : ℕ) → n ≤ q → slice_get (ranks_at l at n) q ≡ None
 rank_unknown l at n q h = slice_get_past (ranks_at l at n) q (omega (arith, length-ranks l at n))
 
+-- the states whose fields begin behind the first i bytes, and in the part of a table that a slice from there on is
+pub ranks_behind : (i : ℕ) (l : List ℕ) (n j : ℕ) → ranks_at (drop i l) j n ≡ ranks_at l (i + j) n
+unfolding ranks_at
+ranks_behind i l zero j = refl
+ranks_behind i l (suc n) j = rw (get_or-drop i l (j + 3) 0, ranks_behind i l n, ← add_assoc i j 3, ← add_assoc i j 4)
+
+pub ranks-part : (base : ℕ) (l : List ℕ) (n m : ℕ) → m ≡ min base (length l) → ranks_at (take (length l - m) (drop m l)) 0 n ≡ ranks_at l base n
+ranks-part base l n m h = ap (λ (k : List ℕ). ranks_at k 0 n) (take_rest l m ∙ ap (λ (i : ℕ). drop i l) h ∙ drop_min base l) ∙ ranks_behind base l n 0 ∙ ap (λ (i : ℕ). ranks_at l i n) (add-zero base)
+
 -- what the check uses to prove the functions over states
 pub ruleset rank_laws = (length-ranks, rank-known, rank_unknown, unwrap_or-slice_get)
 
-pub ruleset name_laws = (front_name, take_rest, take_min, drop_min, length-names, found_here, not_here, found_nowhere)
+pub ruleset name_laws = (front_name, name_short, name_rest, take_rest, take_min, drop_min, length-names, found_here, not_here, found_nowhere)

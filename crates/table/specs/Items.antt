@@ -1,6 +1,7 @@
 -- The items of a right side one by one, as the code reads them. Assumes nothing.
 --
---   meant       the item of `Side` that an item of the code is
+--   meant       the item of `Side` that an item of the code is; `source_meant`: the source of document 002
+--   told        the item that a first byte tells, from the bytes behind it
 --   front       the item that bytes begin with, and the bytes behind it; nothing where they begin with none
 use Rattle.std.specs.Prelude.{ℕ, List, [], ◌∷◌, Option, None, Some}
 use Rattle.std.proofs.Math.Option as maybe

@@ -24,10 +24,10 @@ fn first_name(bytes: &[u8]) -> (&[u8], &[u8])
     ensures name { result.0.now ≡ name_at bytes.now 0 }
     ensures behind { result.1.now ≡ drop (3 + get_or bytes.now 2 0) bytes.now }
 {
-    let long = bytes.get(2).copied().map_or(0, usize::from);
-    let rest = &bytes[3.min(bytes.len())..];
-    let end = long.min(rest.len());
-    rest.split_at(end)
+    match bytes {
+        [_, _, long, rest @ ..] => rest.split_at(usize::from(*long).min(rest.len())),
+        _ => (&[], &[]),
+    }
 }
 
 impl<'a> Names<'a> {
@@ -35,6 +35,7 @@ impl<'a> Names<'a> {
         requires { count ≤ 128 }
         ensures { result ≡ names_at table.now 0 count }
     {
+        // `as`: it is 128 at most, and `try_from` would bring a failure that cannot be
         Names {
             table,
             count: count as u8,

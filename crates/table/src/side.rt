@@ -5,7 +5,7 @@
 #![tactic(auto, using(crate::proofs::Naming::rank_laws, crate::proofs::Sides::side_laws))]
 
 ghost use Rattle.std.specs.Prelude.{◌≡◌, ◌+◌, ◌≤◌, length, get_or, IfSome};
-ghost use Rattle.table.specs.Side.{has_element, has_source, allowed, owed, words, side_number};
+ghost use Rattle.table.specs.Side.{has_source, allowed, words, side_number};
 ghost use Rattle.table.specs.Items.{source_meant, meant};
 ghost use Rattle.table.specs.Tally.{matched, ends, tallied, number, verdict};
 
@@ -30,7 +30,7 @@ enum Node {
 pub struct Scope<'a> {
     pub names: usize,
     pub states: States<'a>,
-    // a number still: every number has an answer here, and the check of a rule refuses those that are no pattern's
+    // a number: `side` answers for every one, also for those that are no pattern's
     pub pattern: usize,
     pub values: usize,
 }
@@ -114,7 +114,7 @@ impl<'a> Scope<'a> {
         }
     }
 
-    // With one item more; nothing where it may not stand there.
+    // The tally with one item more; nothing where the item may not stand there.
     fn tallied(&self, tally: Tally, item: Item) -> Option<Tally>
         requires owed { tally.owed ≤ 4294967296 }
         requires words { tally.words ≤ 4294967296 }
