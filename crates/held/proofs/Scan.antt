@@ -15,11 +15,11 @@ use Rattle.held.proofs.Words.{of_close, of_call, word_item, item_start, item_end
 -- both of two tests
 pub both : (a b : Bool) → (a && b) ≡ true → (a ≡ true) × (b ≡ true)
 both true b h = (refl, h)
-both false b h = let z : ◌≡◌ {A = ℕ} 0 1 = cc in absurd (omega arith)
+both false b h = cc
 
 pub true-T : (b : Bool) → b ≡ true → T b
 true-T true h = tt
-true-T false h = let z : ◌≡◌ {A = ℕ} 0 1 = cc in absurd (omega arith)
+true-T false h = cc
 
 pub T_true : (b : Bool) → T b → b ≡ true
 T_true true t = refl
@@ -37,7 +37,7 @@ joined_args zero n f = simp zero-add
 joined_args (suc r) n f = simp (suc-add, append_assoc) (ap (λ (l : List ℕ). flat (f 0) ++ (close_word ∷ l)) (joined_args r n (λ i. f (suc i))))
 
 never : {A : Type 0} → false ≡ true → A
-never h = let z : ◌≡◌ {A = ℕ} 0 1 = cc in absurd (omega arith)
+never h = cc
 
 module _ (K : Vocabulary) (d : ℕ) where
   -- what a call's test says

@@ -20,7 +20,7 @@ fn begins_held(words: &[u32]) -> bool
 }
 
 impl<'a> Vocabulary<'a> {
-    // What is owed after a word, at most `usize::MAX`: no slice has as many words to pay more back.
+    // What is owed after a word, at most `usize::MAX`, which is more than any slice has words to pay back.
     pub fn owed_after(&self, w: u32, owed: usize) -> usize
         ensures same { result ≡ min (owe (vocab self.now) (item_of w) owed) usize.MAX }
         ensures few { result ≤ owed + 65535 }

@@ -12,7 +12,7 @@ const RANKS: usize = 2;
 
 const MOST_STATES: usize = 64;
 
-// A contract sees the words of the index.
+// A contract sees the words of the index, and not the vocabulary that they are: a model's value can hold no function.
 #[derive(Drop)]
 pub struct Vocabulary<'a> {
     index: &'a [u16],

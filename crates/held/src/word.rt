@@ -24,7 +24,6 @@ pub const CHARACTER: usize = 3;
 
 pub const CALL: usize = 4;
 
-pub const CLOSE: usize = 5;
 // The end of an argument: this word alone.
 pub const CLOSE_WORD: u32 = 0x5000_0000;
 
@@ -56,7 +55,7 @@ impl TryFrom<u32> for Item {
                 state: state_of(w),
                 level: level_of(w),
             }),
-            (CLOSE, 0) => Ok(Item::Close),
+            _ if w == CLOSE_WORD => Ok(Item::Close),
             _ => Err(NoItem(w)),
         }
     }
@@ -97,9 +96,10 @@ pub fn level_of(w: u32) -> usize
 
 // The four below are one call of this each: a caller names the kind, and its payload has the kind's own type.
 fn word(kind: usize, payload: u32) -> u32
-    requires { (kind ≤ 5) × (payload < payloads) }
+    requires { (kind ≤ 4) × (payload < payloads) }
     ensures { result ≡ kind * payloads + payload }
 {
+    // `as`: the kinds are `usize`, as `kind_of` has them
     kind as u32 * PAYLOADS + payload
 }
 

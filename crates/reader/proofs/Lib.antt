@@ -4,5 +4,4 @@ pub mod Scan
 pub mod Place
 pub mod Tags
 pub mod References
-pub mod Names
 pub mod Read

@@ -24,7 +24,7 @@ use Rattle.reader.specs.Form.{Begins, Reference, lt, gt, amp, quot, apos, Form, 
 use Rattle.reader.specs.Read.{number, taken, named, found_of, answered, read_event}
 use Rattle.reader.specs.Scan.{whole, cut, Scan, bad, over, scan_tag, scan_reference, scan}
 use Rattle.reader.proofs.Exact.{Front, Part, more, front_whole, part_cut, cut_part, whole_front, neither_bad}
-use Rattle.reader.proofs.Names.{number_at, number_least}
+use Rattle.table.proofs.Numbers.{number_at, number_least}
 use Rattle.reader.proofs.Scan.{scan_finds, scan_means}
 
 -- the first byte tells what is read

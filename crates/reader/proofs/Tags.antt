@@ -95,8 +95,8 @@ module _ (names : List (List ℕ)) where
       go : (t : Bool) → known r k ≡ cond t (known (number_of names n) (length n + 1)) (Err Name) → k ≡ length n + 1
       go true h = (both_same r k (number_of names n) (length n + 1) h).1
       go false h = cc
-  within_of r k l cut f e = let z : ◌≡◌ {A = ℕ} 0 1 = cc in absurd (omega arith)
-  within_of r k l bad f e = let z : ◌≡◌ {A = ℕ} 0 1 = cc in absurd (omega arith)
+  within_of r k l cut f e = cc
+  within_of r k l bad f e = cc
 
   pub known_within : (r k : ℕ) (l : List ℕ) → known r k ≡ named_at names (scan_name l) → k ≤ length l
   known_within r k l e = within_of r k l (scan_name l) refl e

@@ -6,7 +6,9 @@
 --   number           document 01's number of an answer: 0 for an event
 --   taken            how many bytes were taken: 0 of a refusal
 --   event_of         the event of an answer, where it is one
---   found_of         the answer for a form: 5 for a tag whose name is not in the table
+--   named            the answer for a name: 5 where it is none of the names
+--   found_of         the answer for a form
+--   answered         the answer for what a scan finds
 --   read_event       the answer for bytes
 use Rattle.std.specs.Prelude.{ℕ, cond, List, ltb, length, Result, Ok, Err}
 use Rattle.std.proofs.Math.Option.{Option, none, some}

@@ -19,7 +19,7 @@ fn named(names: &Names, bytes: &[u8]) -> Result<(u8, usize), Refusal>
     Ok((name, long + 1))
 }
 
-// What stands behind a `<`.
+// What stands behind a `<`. The two kinds of tag differ in the event and in what stands before the name.
 pub fn tag(names: &Names, bytes: &[u8]) -> Result<Found, Refusal>
     ensures { result ≡ answered names.now (scan_tag bytes.now) }
 {

@@ -9,7 +9,7 @@ use mathlib.Core.Bool.{and-false}
 use Rattle.std.proofs.lemmas.List.{take_rest}
 use Rattle.table.specs.Format.{none_yet, counted, same_bytes, number_of, all_parts, is_name}
 use Rattle.table.specs.Names.{found}
-use Rattle.table.proofs.Naming.{number-most}
+use Rattle.table.proofs.Numbers.{number-most}
 
 pub none_yet-none : (l : List ℕ) → length l ≡ 0 → none_yet l ≡ true
 none_yet-none [] h = refl
@@ -26,7 +26,7 @@ module _ (names : List (List ℕ)) (b : List ℕ) where
     where
       go : (t : Bool) → ltb (number_of names b) (length names) ≡ t → eqb (number_of names b) (length names) ≡ true
       go true h = absurd (none-some _ (rw h at e))
-      go false h = eq-eqb (number_of names b) (length names) (omega (arith, number-most names b, ltb-false (number_of names b) (length names) h))
+      go false h = eq-eqb (number_of names b) (length names) (omega (arith, number-most b names, ltb-false (number_of names b) (length names) h))
 
   pub old_name : (n : ℕ) → Some n ≡ found names b → eqb (number_of names b) (length names) ≡ false
   old_name n e = go (ltb (number_of names b) (length names)) refl

@@ -1,3 +1,4 @@
+pub mod Numbers
 pub mod Naming
 pub mod Sides
 pub mod Checking

@@ -10,6 +10,7 @@ use Rattle.std.proofs.Math.Seq.{take-nil}
 use lib.Pointwise.{pointwise}
 use Rattle.table.specs.Format.{same_bytes, counted, number_of}
 use Rattle.table.specs.Names.{name_at, names_at, ranks_at, found}
+use Rattle.table.proofs.Numbers.{number-most}
 
 -- the library's equality of bytes is that of the definitions
 pub pointwise-same_bytes : (x y : List ℕ) → pointwise nat_eq x y ≡ same_bytes x y
@@ -70,19 +71,10 @@ module _ (l b rest first : List ℕ) (n count : ℕ) (p : number_of (names_at l 
   pub found_nowhere : count ≤ n → None ≡ found (names_at l 0 count) b
   found_nowhere h = rw (le-ltb (number_of (names_at l 0 count) b) (length (names_at l 0 count)) (omega (arith, p, length-names l 0 count)))
 
-counted-most : (t : Bool) (n k : ℕ) → n ≤ k → counted t n ≤ suc k
-counted-most true n k h = omega arith
-counted-most false n k h = omega arith
-
-pub number-most : (names : List (List ℕ)) (b : List ℕ) → number_of names b ≤ length names
-unfolding number_of
-number-most [] b = omega arith
-number-most (a ∷ names) b = counted-most (same_bytes a b) (number_of names b) (length names) (number-most names b)
-
 -- what is found is the number, and where nothing is found the number is how many names there are
 module _ (names : List (List ℕ)) (b : List ℕ) where
   number_by : (t : Bool) → ltb (number_of names b) (length names) ≡ t → (n : ℕ) → Some n ≡ cond t (Some (number_of names b)) None → (n ≡ number_of names b) × (n ≤ length names)
-  number_by true e n h = let p : n ≡ number_of names b = cc in (p, omega (arith, number-most names b))
+  number_by true e n h = let p : n ≡ number_of names b = cc in (p, omega (arith, number-most b names))
   number_by false e n h = cc
 
   pub found_number : (n : ℕ) → Some n ≡ found names b → (n ≡ number_of names b) × (n ≤ length names)
@@ -90,7 +82,7 @@ module _ (names : List (List ℕ)) (b : List ℕ) where
 
   none_by : (t : Bool) → ltb (number_of names b) (length names) ≡ t → None ≡ cond t (Some (number_of names b)) None → number_of names b ≡ length names
   none_by true e h = cc
-  none_by false e h = omega (arith, number-most names b, ltb-false (number_of names b) (length names) e)
+  none_by false e h = omega (arith, number-most b names, ltb-false (number_of names b) (length names) e)
 
   pub found_none : None ≡ found names b → number_of names b ≡ length names
   found_none h = none_by (ltb (number_of names b) (length names)) refl h

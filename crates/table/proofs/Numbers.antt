@@ -12,13 +12,13 @@ same_refl (b ∷ a) = rw (eq-eqb b b refl) (same_refl a)
 pub same_eq : (a b : List ℕ) → same_bytes a b ≡ true → a ≡ b
 unfolding same_bytes
 same_eq [] [] e = refl
-same_eq [] (y ∷ b) e = let z : ◌≡◌ {A = ℕ} 0 1 = cc in absurd (omega arith)
-same_eq (x ∷ a) [] e = let z : ◌≡◌ {A = ℕ} 0 1 = cc in absurd (omega arith)
+same_eq [] (y ∷ b) e = cc
+same_eq (x ∷ a) [] e = cc
 same_eq (x ∷ a) (y ∷ b) e = go (eqb x y) refl (same_eq a b) e
   where
     go : (t : Bool) → eqb x y ≡ t → (same_bytes a b ≡ true → a ≡ b) → (t && same_bytes a b) ≡ true → x ∷ a ≡ y ∷ b
     go true h k f = ap₂ ◌∷◌ (eqb-true x y h) (k f)
-    go false h k f = let z : ◌≡◌ {A = ℕ} 0 1 = cc in absurd (omega arith)
+    go false h k f = cc
 
 module _ (n : List ℕ) where
   -- the name with that number has these bytes
