@@ -1,18 +1,17 @@
 -- The table of classes has document 01's classes at every byte: `class_low`, `class_high`; and what a byte may be is told by
 -- its class: `start_class`, `part_class`, `text_class`, `leaf_class`. Assumes nothing.
 use Rattle.std.proofs.Common.{ℕ, ◌≡◌, ◌≤◌, ◌<◌, refl, sym, ◌∙◌, subst, Bool, not, true, false, ◌&&◌, arith}
-use mathlib.Core.Bool.{and-false}
-use borrow.Author.Tests.{lt-leb, ne_eqb}
-use lib.Dec.{eqb, leb, T}
-use lib.ListN.{get_or}
-use native.Mathlib.Decide.{dec_lt}
+use Rattle.std.proofs.Math.Bool.{and-false}
+use Rattle.std.proofs.lemmas.Bool.{lt-leb, ne_eqb}
+use Rattle.std.proofs.Math.Dec.{eqb, leb, T}
+use Rattle.std.proofs.Math.ListN.{get_or}
+use Rattle.std.proofs.lemmas.List.{get_or_default}
+use Rattle.std.specs.Ordering.{partial_ge}
+use Rattle.std.proofs.Math.Decide.{dec_lt}
 use Rattle.alphabet.specs.Classes.{class_of, name_start, name_part, is_text, is_leaf}
 use Rattle.alphabet.specs.declared.TheConstants.{CLASSES}
 use Rattle.alphabet.specs.declared.Class.{Class}
 use Rattle.alphabet.specs.declared.Class.TheVariants.{Never, Markup, Text, Inside, Front}
-use Rattle.std.proofs.lemmas.List.{get_or_default}
-use mathlib.Core.Path.{subst⁻¹}
-use Rattle.std.specs.Ordering.{partial_ge}
 use Rattle.alphabet.specs.contracts.ClassPartialOrd.TheImpl.{partial_cmp-value}
 use Rattle.alphabet.proofs.Table.{both, at}
 
@@ -81,7 +80,7 @@ class_high b h = sym (told b Never (high b h))
 
 module _ (b : ℕ) where
   says : Says b (class_of b)
-  says = elim (dec_lt b 128) [ yes l ↦ subst (Says b) (class_low b Never l) (low b l) | no n ↦ subst⁻¹ (Says b) (class_high b (omega arith)) (high b (omega arith)) ]
+  says = elim (dec_lt b 128) [ yes l ↦ subst (Says b) (class_low b Never l) (low b l) | no n ↦ subst (Says b) (sym (class_high b (omega arith))) (high b (omega arith)) ]
 
   pub start_class : at_least Front (class_of b) ≡ name_start b
   start_class = says.front

@@ -1,11 +1,8 @@
 -- A rule of a table, proved at all of its entries by one test that antt computes, one entry after the other. Assumes nothing.
-use Prim.Native.Nat.{ℕ, zero, suc, ◌+◌, ◌<◌}
-use mathlib.Core.Bool.{Bool, true, false, ◌&&◌}
-use mathlib.Core.List.{List, [], ◌∷◌}
-use native.Mathlib.Nat.{add-zero, zero-add, add-suc, suc-add}
-use native.Mathlib.Omega.{arith}
-use lib.Dec.{T}
-use lib.ListN.{length, get_or}
+use Rattle.std.proofs.Common.{ℕ, zero, suc, ◌+◌, ◌<◌, List, [], ◌∷◌, add-zero, zero-add, add-suc, suc-add, arith}
+use Rattle.std.proofs.Math.Bool.{Bool, true, false, ◌&&◌}
+use Rattle.std.proofs.Math.Dec.{T}
+use Rattle.std.proofs.Math.ListN.{length, get_or}
 
 pub both : (a b : Bool) → T (a && b) → T a × T b
 both true b t = (tt, t)

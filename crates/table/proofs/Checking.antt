@@ -2,12 +2,12 @@
 use Rattle.std.proofs.Common.{ℕ, suc, ◌≡◌, ◌-◌, ◌≤◌, ◌<◌, refl, sym, ap, ◌∙◌, Bool, true, false, ◌&&◌, List, [], ◌∷◌, length, get_or, take, drop, Some, None, arith}
 use Rattle.std.proofs.lemmas.Bool.{eq-eqb, ne_eqb, ltb-true, ltb-false}
 use Rattle.std.proofs.lemmas.Option.{none-some}
-use lib.Dec.{ltb, eqb}
+use Rattle.std.proofs.Math.Dec.{ltb, eqb}
 use Rattle.std.specs.List.{list_all}
-use Rattle.alphabet.specs.Classes.{name_start, name_part}
-use mathlib.Core.Bool.{and-false}
+use Rattle.std.proofs.Math.Bool.{and-false}
 use Rattle.std.proofs.lemmas.List.{take_rest}
-use Rattle.table.specs.Format.{none_yet, counted, same_bytes, number_of, all_parts, is_name}
+use Rattle.alphabet.specs.Classes.{name_start, name_part}
+use Rattle.table.specs.Format.{none_yet, number_of, all_parts, is_name}
 use Rattle.table.specs.Names.{found}
 use Rattle.table.proofs.Numbers.{number-most}
 

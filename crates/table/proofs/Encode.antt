@@ -2,7 +2,7 @@
 use Rattle.std.proofs.Common.{ℕ, zero, suc, ◌≡◌, ◌+◌, ◌*◌, ◌/◌, ◌%◌, refl, sym, subst, ap, ◌∙◌, Bool, true, false, List, [], ◌∷◌, ◌++◌, length, take, drop, append_assoc, append-nil, length-append, arith}
 use Rattle.std.proofs.Math.Seq.{take-append_seam, drop-append_seam}
 use Rattle.std.proofs.lemmas.Bool.{eqb-false, leb-true, leb-false}
-use lib.Dec.{eqb, leb}
+use Rattle.std.proofs.Math.Dec.{eqb, leb}
 use Rattle.table.specs.Format.{Fields, field, fields_from, fields, Rule, Contents, nothing, rule_of, refusal, added, Read, check_fields, read}
 use Rattle.table.specs.Encode.{encoded_field, rule_content, encoded_names, encoded_ranks, encoded_rules, encoded, Canonical}
 use Rattle.table.proofs.Reading.{enough, check-refused, check-on, check-end, read-fields, reading_long}

@@ -1,11 +1,10 @@
 -- Names as they stand in a table: which one some bytes are; and carried values by their places. Assumes nothing.
-use Rattle.std.proofs.Common.{ℕ, zero, suc, ◌≡◌, ◌+◌, ◌*◌, ◌≤◌, ◌<◌, refl, sym, ap, ◌∙◌, Bool, true, false, ◌&&◌, List, [], ◌∷◌, length, get_or, take, drop, add_assoc, add-zero, nat_eq, Some, None, arith, ◌-◌, cond}
+use Rattle.std.proofs.Common.{ℕ, zero, suc, ◌≡◌, ◌+◌, ◌*◌, ◌≤◌, ◌<◌, refl, sym, ap, ◌∙◌, Bool, true, false, ◌&&◌, List, [], ◌∷◌, length, get_or, take, drop, add_assoc, add-zero, nat_eq, Some, None, arith, ◌-◌, cond, min, drop_of_length-le}
 use Rattle.std.proofs.lemmas.Bool.{lt-ltb, le-ltb, ltb-false}
-use lib.Dec.{ltb}
+use Rattle.std.proofs.Math.Dec.{ltb}
 use Rattle.std.specs.List.{slice_get}
 use Rattle.std.proofs.lemmas.Option.{slice_get-get_or, slice_get_past, unwrap_or-slice_get}
 use Rattle.std.proofs.lemmas.List.{get_or-drop, drop-drop, drop-take, drop_min, take_min, take_rest}
-use Rattle.std.proofs.Common.{min, length-drop, drop_of_length-le}
 use Rattle.std.proofs.Math.Seq.{take-nil}
 use lib.Pointwise.{pointwise}
 use Rattle.table.specs.Format.{same_bytes, counted, number_of}

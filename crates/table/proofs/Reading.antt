@@ -3,7 +3,7 @@ use Rattle.std.proofs.Common.{ℕ, zero, suc, ◌≡◌, ◌+◌, ◌*◌, ◌-�
 use Rattle.std.proofs.lemmas.Bool.{le-leb, lt-leb, leb-true, leb-false, eqb-true, eqb-false, ltb-true, eq-eqb, ne_eqb}
 use Rattle.std.proofs.lemmas.List.{nil_from_length, drop-drop, get_or-drop, get_or-take, length-drop, length-take-le, drop-take}
 use Rattle.std.proofs.lemmas.Option.{none-some}
-use lib.Dec.{leb, ltb, eqb}
+use Rattle.std.proofs.Math.Dec.{leb, ltb, eqb}
 use Rattle.table.specs.Format.{Fields, stop, cut, field, length_at, whole, fields_from, fields, Contents, nothing, rule_of, key, none_yet, is_name, number_of, name_refusal, state_refusal, rule_refusal, rule_holds, refusal, added, Read, behind_end, check_fields, read}
 use Rattle.table.specs.Names.{name_at, names_at, ranks_at}
 use Rattle.table.specs.Checked.{cut_field, front_field, names_with, base_with, states_with, next_with}

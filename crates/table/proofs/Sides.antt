@@ -1,16 +1,16 @@
 -- A right side's items one by one: each turn of the loop over them keeps what is left to decide. Assumes nothing.
 use Rattle.std.proofs.Common.{ℕ, suc, ◌≡◌, ◌+◌, ◌*◌, ◌-◌, ◌≤◌, ◌<◌, refl, sym, ap, ◌∙◌, Bool, true, false, cond, not, ◌&&◌, ◌||◌, List, [], ◌∷◌, length, Some, None, Option, add_assoc, add-zero, arith}
-use mathlib.Core.Bool.{or-false}
-use Rattle.std.proofs.Math.Option as maybe
+use Rattle.std.proofs.Math.Bool.{or-false}
 use Rattle.std.proofs.lemmas.List.{nil_from_length}
 use Rattle.std.proofs.lemmas.Option.{none-some}
 use Rattle.std.proofs.lemmas.Bool.{le-leb, lt-leb, ltb-true, ltb-false}
-use lib.Dec.{leb, ltb}
+use Rattle.std.proofs.Math.Dec.{leb, ltb}
 use Rattle.meaning.specs.Rules.{Source}
 use Rattle.table.specs.Side.{Item, Kind, is10, is11, is12, is13, is14, is15, is1F, is_none, kind_of, first, state15, put, source_of, call_from, item_from, items, allowed, all_allowed, owed, due, closed, few, words, words_of, judged, side_number}
 use Rattle.table.specs.Items.{with_source, told, front}
 use Rattle.table.specs.Tally.{tallied, verdict}
 use Rattle.table.specs.declared.side.Tally.{Tally}
+use Rattle.std.proofs.Math.Option as maybe
 
 -- an item in front: it must be allowed and due, and then the rest decides
 joined : (a e f g o x y w : Bool)
