@@ -4,4 +4,5 @@ pub mod Sides
 pub mod Checking
 pub mod Reading
 pub mod Encode
+pub mod Proper
 pub mod Examples

@@ -120,12 +120,12 @@ module _ (l : List ℕ) where
 
 -- ---- what an accepted field says
 
-both : (a b : Bool) → (a && b) ≡ true → (a ≡ true) × (b ≡ true)
+pub both : (a b : Bool) → (a && b) ≡ true → (a ≡ true) × (b ≡ true)
 both true b h = (refl, h)
 both false b h = let z : ◌≡◌ {A = ℕ} 0 1 = cc in absurd (omega arith)
 
 -- a choice between 0 and something else is 0
-chosen : (a : Bool) (x y : ℕ) → cond a x (suc y) ≡ 0 → (a ≡ true) × (x ≡ 0)
+pub chosen : (a : Bool) (x y : ℕ) → cond a x (suc y) ≡ 0 → (a ≡ true) × (x ≡ 0)
 chosen true x y h = (refl, h)
 chosen false x y h = absurd (omega arith)
 
