@@ -1,14 +1,15 @@
 -- What an accepted table's right sides are: of its vocabulary, no larger than 64, with no more than 8 ends owed. Assumes nothing.
-use Rattle.std.proofs.Common.{ℕ, zero, suc, pred, ◌≡◌, ◌+◌, ◌≤◌, ◌<◌, ◌⊎◌, inl, inr, refl, sym, ap, subst, ◌∙◌, Bool, true, false, cond, not, ◌&&◌, ◌||◌, List, [], ◌∷◌, length, get_or, add-zero, arith}
+use Rattle.std.proofs.Common.{ℕ, zero, suc, pred, ◌≡◌, ◌+◌, ◌≤◌, ◌<◌, ◌⊎◌, inl, inr, refl, sym, ap, subst, ◌∙◌, Bool, true, false, cond, not, ◌&&◌, ◌||◌, List, [], ◌∷◌, length, get_or, add-zero, zero-add, suc-add, add-suc, arith}
 use Rattle.std.proofs.Math.Option.{Option, none, some}
 use Rattle.std.proofs.lemmas.Bool.{leb-true, eqb-true, ltb-true, ltb-false}
 use lib.Dec.{leb, ltb, eqb, T}
 use Rattle.alphabet.specs.Classes.{is_leaf}
 use Rattle.meaning.specs.Rules.{Source, children, siblings, Match, on_empty, on_element, on_character, Rhs, RArgs, no_arg, arg}
+use Rattle.meaning.specs.Count.{rhs_size, rhs_sizes}
 use Rattle.meaning.specs.Valid as valid
 use Rattle.meaning.specs.Valid.{Vocabulary, RCount, RhsValid, RArgsValid}
 use Rattle.table.specs.Side.{Item, item10, item11, item12, item13, item14, item15, item1F, items, first, has_element, has_source, allowed, all_allowed, owed, due, closed, few, words, words_of, judged, side_number}
-use Rattle.table.specs.Rules.{args_of, rhs_of, known, side_of}
+use Rattle.table.specs.Rules.{args_of, rhs_of, known, side_of, count, Owes, OwesAll}
 use Rattle.table.proofs.Reading.{both, chosen}
 
 -- ---- what is allowed is valid
@@ -84,6 +85,91 @@ module _ (names : ℕ) (ranks : List ℕ) (p n : ℕ) (m : Match) (s : Stands p 
   valid_items (item1F ∷ is) h zero = tt
   valid_items (item1F ∷ is) h (suc i) = valid_items is h i
 
+-- ---- the size of a right side is its items' words
+
+-- the first k numbers of f
+unfoldable pub summed : ℕ → (ℕ → ℕ) → ℕ
+summed zero f = 0
+summed (suc k) f = f 0 + summed k (λ i. f (suc i))
+
+-- the r numbers before the one at r, and the k behind it
+summed_split : (r k : ℕ) (f : ℕ → ℕ) → summed (suc (r + k)) f ≡ summed r f + (f r + summed k (λ i. f (suc (r + i))))
+unfolding summed
+summed_split zero k f = simp zero-add
+summed_split (suc r) k f = let e = summed_split r k (λ i. f (suc i)) in simp suc-add (omega (arith, e))
+
+sizes-args : (k : ℕ) (f : ℕ → Rhs) → rhs_sizes (args_of k f) ≡ k + summed k (λ i. rhs_size (f i))
+unfolding args_of summed rhs_sizes
+sizes-args zero f = refl
+sizes-args (suc k) f = let e = sizes-args k (λ i. f (suc i)) in omega (arith, e)
+
+module _ (ranks : List ℕ) where
+  abbrev size_at : List Item → ℕ → ℕ
+  size_at is i = rhs_size (rhs_of ranks is i)
+
+  -- d ends are owed: the d + 1 right sides of the stack have the words of their items
+  words-sizes : (is : List Item) (d : ℕ) → closed ranks is d ≡ true → summed (suc d) (λ i. size_at is i) ≡ words_of ranks is
+  unfolding closed words_of rhs_of rhs_size summed
+  words-sizes [] zero h = refl
+  words-sizes [] (suc d) h = absurd (omega (arith, eqb-true (suc d) 0 h))
+  words-sizes (item10 k ∷ is) d h = let e = words-sizes is (suc d) h in omega (arith, e)
+  words-sizes (item11 ∷ is) d h = let e = words-sizes is (suc d) h in omega (arith, e)
+  words-sizes (item12 c ∷ is) d h = let e = words-sizes is d h in omega (arith, e)
+  words-sizes (item13 ∷ is) d h = let e = words-sizes is d h in omega (arith, e)
+  words-sizes (item14 j ∷ is) d h = let e = words-sizes is d h in omega (arith, e)
+  words-sizes (item15 x q ∷ is) d h =
+      let e = words-sizes is (get_or ranks q 0 + d) h in
+      let f = summed_split (get_or ranks q 0) d (λ i. size_at is i) in
+      let g = sizes-args (get_or ranks q 0) (λ i. rhs_of ranks is i) in
+      omega (arith, e, f, g)
+  words-sizes (item1F ∷ is) zero h = never h
+  words-sizes (item1F ∷ is) (suc d) h = let e = words-sizes is d (both (ltb 0 (suc d)) _ h).1 in omega (arith, e)
+
+-- ---- the ends that a right side owes
+
+count-args : (k : ℕ) (f : ℕ → Rhs) → count (args_of k f) ≡ k
+unfolding args_of count
+count-args zero f = refl
+count-args (suc k) f = ap suc (count-args k (λ i. f (suc i)))
+
+owes-args : (k e : ℕ) (f : ℕ → Rhs) → ((i j : ℕ) → i + j ≡ k + e → Owes j (f i)) → OwesAll e (args_of k f)
+unfolding args_of
+owes-args zero e f v = tt
+owes-args (suc k) e f v =
+    (v 0 (suc (count (args_of k (λ i. f (suc i))) + e)) (omega (arith, count-args k (λ i. f (suc i)))), owes-args k e (λ i. f (suc i)) (λ i j h. v (suc i) j (omega arith)))
+
+module _ (ranks : List ℕ) where
+  -- of the d + 1 right sides of the stack, the one at i has its own end and those of the ones behind it before it
+  owes-items : (is : List Item) (d : ℕ) → few ranks is d ≡ true → (i e : ℕ) → i + e ≡ d → Owes e (rhs_of ranks is i)
+  unfolding few rhs_of
+  owes-items [] d h i e g = tt
+  owes-items (item10 k ∷ is) d h zero e g =
+      let a = both (leb (suc d) 8) _ h in
+      let l = leb-true (suc d) 8 a.0 in
+      (omega (arith, l), owes-items is (suc d) a.1 0 (suc e) (omega arith), owes-items is (suc d) a.1 1 e (omega arith))
+  owes-items (item10 k ∷ is) d h (suc i) e g = owes-items is (suc d) (both (leb (suc d) 8) _ h).1 (suc (suc i)) e (omega arith)
+  owes-items (item11 ∷ is) d h zero e g =
+      let a = both (leb (suc d) 8) _ h in
+      let l = leb-true (suc d) 8 a.0 in
+      (omega (arith, l), owes-items is (suc d) a.1 0 (suc e) (omega arith), owes-items is (suc d) a.1 1 e (omega arith))
+  owes-items (item11 ∷ is) d h (suc i) e g = owes-items is (suc d) (both (leb (suc d) 8) _ h).1 (suc (suc i)) e (omega arith)
+  owes-items (item12 c ∷ is) d h zero e g = owes-items is d (both (leb d 8) _ h).1 0 e g
+  owes-items (item12 c ∷ is) d h (suc i) e g = owes-items is d (both (leb d 8) _ h).1 (suc i) e g
+  owes-items (item13 ∷ is) d h zero e g = owes-items is d (both (leb d 8) _ h).1 0 e g
+  owes-items (item13 ∷ is) d h (suc i) e g = owes-items is d (both (leb d 8) _ h).1 (suc i) e g
+  owes-items (item14 j ∷ is) d h zero e g = owes-items is d (both (leb d 8) _ h).1 0 e g
+  owes-items (item14 j ∷ is) d h (suc i) e g = owes-items is d (both (leb d 8) _ h).1 (suc i) e g
+  owes-items (item15 x q ∷ is) d h zero e g =
+      let r = get_or ranks q 0 in
+      let a = both (leb (r + d) 8) _ h in
+      let l = leb-true (r + d) 8 a.0 in
+      (omega (arith, l, count-args r (λ i. rhs_of ranks is i)), owes-args r e (λ i. rhs_of ranks is i) (λ i j y. owes-items is (r + d) a.1 i j (omega arith)), owes-items is (r + d) a.1 r e (omega arith))
+  owes-items (item15 x q ∷ is) d h (suc i) e g =
+      let r = get_or ranks q 0 in
+      owes-items is (r + d) (both (leb (r + d) 8) _ h).1 (suc (r + i)) e (omega arith)
+  owes-items (item1F ∷ is) d h zero e g = tt
+  owes-items (item1F ∷ is) d h (suc i) e g = owes-items is (pred d) (both (leb (pred d) 8) _ h).1 i e (omega arith)
+
 -- ---- a right side that is not refused
 
 module _ (names : ℕ) (ranks : List ℕ) (p n : ℕ) where
@@ -120,3 +206,13 @@ module _ (names : ℕ) (ranks : List ℕ) (p n : ℕ) where
     pub side-valid : (m : Match) → Stands p m → RhsValid (mentions names ranks) m n (side_of ranks bs)
     unfolding side_of
     side-valid m s = valid_items names ranks p n m s (known (items bs first)) taken-side.allowed 0
+
+    -- its size is at most 64
+    pub side-size : rhs_size (side_of ranks bs) ≤ 64
+    unfolding side_of summed
+    side-size = let e = words-sizes ranks (known (items bs first)) 0 taken-side.closed in omega (arith, e, taken-side.small)
+
+    -- and it owes at most 8 ends at any point
+    pub side-owes : Owes 0 (side_of ranks bs)
+    unfolding side_of
+    side-owes = owes-items ranks (known (items bs first)) 0 taken-side.few 0 0 refl
