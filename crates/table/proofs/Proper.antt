@@ -1,16 +1,19 @@
 -- What an accepted table's right sides are: of its vocabulary, no larger than 64, with no more than 8 ends owed. Assumes nothing.
-use Rattle.std.proofs.Common.{ℕ, zero, suc, pred, ◌≡◌, ◌+◌, ◌≤◌, ◌<◌, ◌⊎◌, inl, inr, refl, sym, ap, subst, ◌∙◌, Bool, true, false, cond, not, ◌&&◌, ◌||◌, List, [], ◌∷◌, length, get_or, add-zero, zero-add, suc-add, add-suc, arith}
+use Rattle.std.proofs.Common.{ℕ, zero, suc, pred, All, ◌≡◌, ◌+◌, ◌++◌, ◌≤◌, ◌<◌, ◌⊎◌, inl, inr, refl, sym, ap, subst, ◌∙◌, Bool, true, false, cond, not, ◌&&◌, ◌||◌, List, [], ◌∷◌, length, get_or, zero-add, suc-add, arith}
 use Rattle.std.proofs.Math.Option.{Option, none, some}
-use Rattle.std.proofs.lemmas.Bool.{leb-true, eqb-true, ltb-true, ltb-false}
+use Rattle.std.proofs.lemmas.List.{length-append}
+use Rattle.std.proofs.lemmas.List.Elements.{All-head, All-push, All-nil}
+use Rattle.std.proofs.lemmas.Bool.{leb-true, eqb-true, eqb-false, eq-eqb, ne_eqb, ltb-true, ltb-false}
 use lib.Dec.{leb, ltb, eqb, T}
 use Rattle.alphabet.specs.Classes.{is_leaf}
-use Rattle.meaning.specs.Rules.{Source, children, siblings, Match, on_empty, on_element, on_character, Rhs, RArgs, no_arg, arg}
+use Rattle.meaning.specs.Rules.{Source, children, siblings, Match, on_empty, on_element, on_character, Rhs}
 use Rattle.meaning.specs.Count.{rhs_size, rhs_sizes}
 use Rattle.meaning.specs.Valid as valid
 use Rattle.meaning.specs.Valid.{Vocabulary, RCount, RhsValid, RArgsValid}
-use Rattle.table.specs.Side.{Item, item10, item11, item12, item13, item14, item15, item1F, items, first, has_element, has_source, allowed, all_allowed, owed, due, closed, few, words, words_of, judged, side_number}
+use Rattle.table.specs.Side.{Item, item10, item11, item12, item13, item14, item15, item1F, items, first, has_element, has_source, all_allowed, closed, few, words_of, judged, side_number}
 use Rattle.table.specs.Rules.{args_of, rhs_of, known, side_of, count, Owes, OwesAll}
-use Rattle.table.proofs.Reading.{both, chosen}
+use Rattle.table.specs.Format.{is_name, number_of, Fields, stop, cut, field, fields, Rule, Contents, nothing, rule_of, key, none_yet, name_refusal, state_refusal, rule_holds, rule_known, rule_refusal, end_refusal, refusal, added, Read, behind_end, check_fields, read}
+use Rattle.table.proofs.Reading.{both, chosen, yet-none, yet-some, as-name, as-state, as-rule, as-none, check-refused, check-end, check-on}
 
 -- ---- what is allowed is valid
 
@@ -207,12 +210,169 @@ module _ (names : ℕ) (ranks : List ℕ) (p n : ℕ) where
     unfolding side_of
     side-valid m s = valid_items names ranks p n m s (known (items bs first)) taken-side.allowed 0
 
-    -- its size is at most 64
-    pub side-size : rhs_size (side_of ranks bs) ≤ 64
+    -- its size is its items' words, at most 64
+    pub side-words : rhs_size (side_of ranks bs) ≡ words_of ranks (known (items bs first))
     unfolding side_of summed
-    side-size = let e = words-sizes ranks (known (items bs first)) 0 taken-side.closed in omega (arith, e, taken-side.small)
+    side-words = let e = words-sizes ranks (known (items bs first)) 0 taken-side.closed in omega (arith, e)
+
+    pub side-size : rhs_size (side_of ranks bs) ≤ 64
+    side-size = omega (arith, side-words, taken-side.small)
 
     -- and it owes at most 8 ends at any point
     pub side-owes : Owes 0 (side_of ranks bs)
     unfolding side_of
     side-owes = owes-items ranks (known (items bs first)) 0 taken-side.few 0 0 refl
+
+-- ---- what contents say
+
+-- a rule of the vocabulary, with a right side that is not refused
+pub record Fit (names : ℕ) (ranks : List ℕ) (r : Rule) : Type 0 where
+  pub state : r.state < length ranks
+  pub pattern : r.pattern ≤ 3
+  pub name : r.pattern ≡ 1 → r.name < names
+  pub side : side_number names ranks r.pattern (get_or ranks r.state 0) r.side ≡ 0
+
+-- contents of fields that are not refused
+pub record Sound (C : Contents) : Type 0 where
+  pub names : length C.names ≤ 128
+  pub states : length C.ranks ≤ 64
+  pub ranks : All (λ n. n ≤ 4) C.ranks
+  pub rules : All (Fit (length C.names) C.ranks) C.rules
+  pub early : C.next ≡ 0 → length C.rules ≡ 0
+
+all-none : {A : Type 0} (P : A → Type 0) (l : List A) → length l ≡ 0 → All P l
+all-none P l h k d g = absurd (omega arith)
+
+-- without a state there is no rule
+stateless : (names : ℕ) (ranks : List ℕ) (rs : List Rule) → All (Fit names ranks) rs → length ranks ≡ 0 → length rs ≡ 0
+stateless names ranks [] h z = refl
+stateless names ranks (r ∷ rs) h z = let f = All-head (Fit names ranks) r rs h in absurd (omega (arith, f.state))
+
+known-name : (p k names : ℕ) → (not (eqb p 1) || ltb k names) ≡ true → p ≡ 1 → k < names
+known-name p k names h z = let f = eq-eqb p 1 z in ltb-true k names (rw f at h)
+
+module _ (C : Contents) (S : Sound C) (c : List ℕ) where
+  sound-name : name_refusal C.names C.ranks c ≡ 0 → Sound (record { names = C.names ++ (c ∷ []); ranks = C.ranks; rules = C.rules; next = C.next })
+  unfolding name_refusal
+  sound-name h =
+      let a = chosen (none_yet C.ranks && (is_name c && eqb (number_of C.names c) (length C.names))) _ 0 h in
+      let room = ltb-true (length C.names) 128 (chosen (ltb (length C.names) 128) 0 1 a.1).0 in
+      let none = stateless (length C.names) C.ranks C.rules S.rules (yet-none C.ranks (both (none_yet C.ranks) _ a.0).0) in
+      record {
+        names = omega (arith, room, length-append C.names (c ∷ []));
+        states = S.states;
+        ranks = S.ranks;
+        rules = all-none (Fit (length (C.names ++ (c ∷ []))) C.ranks) C.rules none;
+        early = λ z. none;
+      }
+
+  sound-state : state_refusal C.ranks C.next c ≡ 0 → Sound (record { names = C.names; ranks = C.ranks ++ (get_or c 0 0 ∷ []); rules = C.rules; next = C.next })
+  unfolding state_refusal
+  sound-state h =
+      let a = chosen (eqb C.next 0 && (eqb (length c) 1 && leb (get_or c 0 0) 4)) _ 0 h in
+      let b = both (eqb C.next 0) _ a.0 in
+      let w = leb-true (get_or c 0 0) 4 (both (eqb (length c) 1) _ b.1).1 in
+      let room = ltb-true (length C.ranks) 64 (chosen (ltb (length C.ranks) 64) 0 1 a.1).0 in
+      let none = S.early (eqb-true C.next 0 b.0) in
+      record {
+        names = S.names;
+        states = omega (arith, room, length-append C.ranks (get_or c 0 0 ∷ []));
+        ranks = All-push (λ n. n ≤ 4) C.ranks (get_or c 0 0) S.ranks w;
+        rules = all-none (Fit (length C.names) (C.ranks ++ (get_or c 0 0 ∷ []))) C.rules none;
+        early = λ z. none;
+      }
+
+  sound-rule : rule_refusal (length C.names) C.ranks C.next c ≡ 0 → Sound (record { names = C.names; ranks = C.ranks; rules = C.rules ++ (rule_of c ∷ []); next = suc (key (rule_of c)) })
+  unfolding rule_refusal
+  sound-rule h =
+      let r = rule_of c in
+      let a = chosen (not (none_yet C.ranks) && rule_holds c) _ 0 h in
+      let b = chosen (rule_known (length C.names) (length C.ranks) C.next r) _ 2 a.1 in
+      let s = both (ltb r.state (length C.ranks)) _ b.0 in
+      let t = both (leb r.pattern 3) _ s.1 in
+      let u = both (not (eqb r.pattern 1) || ltb r.name (length C.names)) _ t.1 in
+      record {
+        names = S.names;
+        states = S.states;
+        ranks = S.ranks;
+        rules = All-push (Fit (length C.names) C.ranks) C.rules r S.rules (record {
+          state = ltb-true r.state (length C.ranks) s.0;
+          pattern = leb-true r.pattern 3 t.0;
+          name = λ z. known-name r.pattern r.name (length C.names) u.0 z;
+          side = b.1;
+        });
+        early = λ z. absurd (omega arith);
+      }
+
+-- the contents with one field more that is not refused
+module _ (C : Contents) (S : Sound C) (t : ℕ) (c : List ℕ) (h : refusal C.names C.ranks C.next t c ≡ 0) where
+  sound-added : (t ≡ 4 → ⊥) → Sound (added C t c)
+  unfolding added
+  sound-added n = go (eqb t 1) (eqb t 2) (eqb t 3) refl refl refl
+    where
+      go : (x y z : Bool) → eqb t 1 ≡ x → eqb t 2 ≡ y → eqb t 3 ≡ z → Sound (added C t c)
+      go true y z e1 e2 e3 = rw e1 (sound-name C S c (sym (as-name C.names C.ranks C.next t c (eqb-true t 1 e1)) ∙ h))
+      go false true z e1 e2 e3 = rw (e1, e2) (sound-state C S c (sym (as-state C.names C.ranks C.next t c (eqb-true t 2 e2)) ∙ h))
+      go false false true e1 e2 e3 = rw (e1, e2, e3) (sound-rule C S c (sym (as-rule C.names C.ranks C.next t c (eqb-true t 3 e3)) ∙ h))
+      go false false false e1 e2 e3 = absurd (let w = as-none C.names C.ranks C.next t c (eqb-false t 1 e1) (eqb-false t 2 e2) (eqb-false t 3 e3) n in omega (arith, w, h))
+
+  some-states : t ≡ 4 → 0 < length C.ranks
+  unfolding refusal end_refusal
+  some-states z =
+      let n1 = ne_eqb t 1 (λ y. omega arith) in
+      let n2 = ne_eqb t 2 (λ y. omega arith) in
+      let n3 = ne_eqb t 3 (λ y. omega arith) in
+      let a = chosen (not (none_yet C.ranks) && eqb (length c) 0) 0 0 (rw (n1, n2, n3, eq-eqb t 4 z) at h) in
+      yet-some C.ranks (both (not (none_yet C.ranks)) _ a.0).0
+
+-- ---- what a table's bytes say
+
+-- what is read
+record Said (r : Read) : Type 0 where
+  sound : Sound r.contents
+  some : r.number ≡ 0 → 0 < length r.contents.ranks
+
+said-end : (C : Contents) (fs : Fields) → Sound C → 0 < length C.ranks → Said (behind_end C fs)
+said-end C (stop at) S h = record { sound = S; some = λ z. h }
+said-end C (cut at) S h = record { sound = S; some = λ z. h }
+said-end C (field at t c fs) S h = record { sound = S; some = λ z. h }
+
+said-field : (C : Contents) (p t : ℕ) (c : List ℕ) (fs : Fields) → Sound C → ((D : Contents) → Sound D → Said (check_fields D fs)) → Said (check_fields C (field p t c fs))
+said-field C p t c fs S on = go (refusal C.names C.ranks C.next t c) refl (eqb t 4) refl
+  where
+    go : (n : ℕ) → refusal C.names C.ranks C.next t c ≡ n → (b : Bool) → eqb t 4 ≡ b → Said (check_fields C (field p t c fs))
+    go zero e true f = let z = eqb-true t 4 f in subst Said (sym (check-end C p t c fs z e)) (said-end C fs S (some-states C S t c e z))
+    go zero e false f = let z = eqb-false t 4 f in subst Said (sym (check-on C p t c fs z e)) (on (added C t c) (sound-added C S t c e z))
+    go (suc r) e b f = subst Said (sym (check-refused C p t c fs r e)) (record { sound = S; some = λ z. absurd (omega arith) })
+
+said-fields : (fs : Fields) (C : Contents) → Sound C → Said (check_fields C fs)
+unfolding check_fields
+said-fields (stop at) C S = record { sound = S; some = λ z. absurd (omega arith) }
+said-fields (cut at) C S = record { sound = S; some = λ z. absurd (omega arith) }
+said-fields (field p t c fs) C S = said-field C p t c fs S (λ D T. said-fields fs D T)
+
+sound-nothing : Sound nothing
+sound-nothing = record {
+  names = omega arith;
+  states = omega arith;
+  ranks = All-nil (λ n. n ≤ 4);
+  rules = All-nil (Fit 0 []);
+  early = λ z. refl;
+}
+
+module _ (l : List ℕ) where
+  said : Said (read l)
+  unfolding read
+  said = go (leb (length l) 32768) refl
+    where
+      go : (b : Bool) → leb (length l) 32768 ≡ b → Said (read l)
+      go true e = rw (e, read) (said-fields (fields l) nothing sound-nothing)
+      go false e = rw (e, read) (record { sound = sound-nothing; some = λ z. absurd (omega arith) })
+
+  -- what is read of a table, accepted or not
+  pub sound-read : Sound (read l).contents
+  sound-read = said.sound
+
+  -- an accepted table has a state
+  pub states-read : (read l).number ≡ 0 → 0 < length (read l).contents.ranks
+  states-read h = said.some h

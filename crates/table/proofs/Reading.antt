@@ -129,11 +129,11 @@ pub chosen : (a : Bool) (x y : ℕ) → cond a x (suc y) ≡ 0 → (a ≡ true) 
 chosen true x y h = (refl, h)
 chosen false x y h = absurd (omega arith)
 
-yet-none : (l : List ℕ) → none_yet l ≡ true → length l ≡ 0
+pub yet-none : (l : List ℕ) → none_yet l ≡ true → length l ≡ 0
 yet-none [] h = refl
 yet-none (x ∷ l) h = let z : ◌≡◌ {A = ℕ} 0 1 = cc in absurd (omega arith)
 
-yet-some : (l : List ℕ) → not (none_yet l) ≡ true → 0 < length l
+pub yet-some : (l : List ℕ) → not (none_yet l) ≡ true → 0 < length l
 yet-some [] h = let z : ◌≡◌ {A = ℕ} 0 1 = cc in absurd (omega arith)
 yet-some (x ∷ l) h = omega arith
 
@@ -179,19 +179,19 @@ module _ (names : List (List ℕ)) (ranks : List ℕ) (k : ℕ) (c : List ℕ) w
 
 -- which of the four a field is
 module _ (names : List (List ℕ)) (ranks : List ℕ) (k t : ℕ) (c : List ℕ) where
-  as-name : t ≡ 1 → refusal names ranks k t c ≡ name_refusal names ranks c
+  pub as-name : t ≡ 1 → refusal names ranks k t c ≡ name_refusal names ranks c
   unfolding refusal
   as-name o = rw (eq-eqb t 1 o)
 
-  as-state : t ≡ 2 → refusal names ranks k t c ≡ state_refusal ranks k c
+  pub as-state : t ≡ 2 → refusal names ranks k t c ≡ state_refusal ranks k c
   unfolding refusal
   as-state o = rw (ne_eqb t 1 (λ z. omega arith), eq-eqb t 2 o)
 
-  as-rule : t ≡ 3 → refusal names ranks k t c ≡ rule_refusal (length names) ranks k c
+  pub as-rule : t ≡ 3 → refusal names ranks k t c ≡ rule_refusal (length names) ranks k c
   unfolding refusal
   as-rule o = rw (ne_eqb t 1 (λ z. omega arith), ne_eqb t 2 (λ z. omega arith), eq-eqb t 3 o)
 
-  as-none : (t ≡ 1 → ⊥) → (t ≡ 2 → ⊥) → (t ≡ 3 → ⊥) → (t ≡ 4 → ⊥) → refusal names ranks k t c ≡ 1
+  pub as-none : (t ≡ 1 → ⊥) → (t ≡ 2 → ⊥) → (t ≡ 3 → ⊥) → (t ≡ 4 → ⊥) → refusal names ranks k t c ≡ 1
   unfolding refusal
   as-none n1 n2 n3 n4 = rw (ne_eqb t 1 n1, ne_eqb t 2 n2, ne_eqb t 3 n3, ne_eqb t 4 n4)
 
