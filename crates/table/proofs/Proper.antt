@@ -1,17 +1,28 @@
--- What an accepted table's right sides are: of its vocabulary, no larger than 64, with no more than 8 ends owed. Assumes nothing.
-use Rattle.std.proofs.Common.{ℕ, zero, suc, pred, All, ◌≡◌, ◌+◌, ◌++◌, ◌≤◌, ◌<◌, ◌⊎◌, inl, inr, refl, sym, ap, subst, ◌∙◌, Bool, true, false, cond, not, ◌&&◌, ◌||◌, List, [], ◌∷◌, length, get_or, zero-add, suc-add, arith}
+-- What a table's right sides are: of its vocabulary, no larger than 64, with no more than 8 ends owed. Assumes nothing.
+--
+-- Document 01, "The rule table", refusals 3 and 2. Of bytes whose `side_number` is 0, under a pattern that stands for m:
+--   side-spelled   they spell items; side-valid, a right side of the vocabulary, for each such m
+--   side-words   its size is the words of its items; side-size, at most 64
+--   side-owes    it owes at most 8 ends at any point
+-- Of what is read of any bytes, accepted or not, as the fields before a refused one were not refused:
+--   sound-read   at most 128 names and 64 states, at most 4 carried values each; each rule has a known state, pattern and name,
+--                and a right side that is not refused; states-read, some state where the table is accepted
+--   proper-rules_of   the table that is spelled is `Proper`; size-rules_of, owes-rules_of, sides-read, the same of its right sides
+--   size-largest, largest-most   none is larger than R, and R is at most 64; rank-most, nor has a state more than 4 values
+use Rattle.std.proofs.Common.{ℕ, zero, suc, pred, All, ◌≡◌, ◌+◌, ◌++◌, ◌≤◌, ◌<◌, ◌⊎◌, inl, inr, refl, sym, ap, subst, ◌∙◌, Bool, true, false, cond, not, ◌&&◌, ◌||◌, List, [], ◌∷◌, length, get_or, max, zero-add, suc-add, arith}
 use Rattle.std.proofs.Math.Option.{Option, none, some}
-use Rattle.std.proofs.lemmas.List.{length-append}
-use Rattle.std.proofs.lemmas.List.Elements.{All-head, All-push, All-nil}
+use Rattle.std.proofs.lemmas.List.{length-append, get_or_past}
+use Rattle.std.proofs.lemmas.List.Elements.{All-head, All-tail, All-push, All-nil}
+use Rattle.std.proofs.Math.Decide.{dec_lt}
 use Rattle.std.proofs.lemmas.Bool.{leb-true, eqb-true, eqb-false, eq-eqb, ne_eqb, ltb-true, ltb-false}
 use lib.Dec.{leb, ltb, eqb, T}
 use Rattle.alphabet.specs.Classes.{is_leaf}
 use Rattle.meaning.specs.Rules.{Source, children, siblings, Match, on_empty, on_element, on_character, Rhs}
 use Rattle.meaning.specs.Count.{rhs_size, rhs_sizes}
 use Rattle.meaning.specs.Valid as valid
-use Rattle.meaning.specs.Valid.{Vocabulary, RCount, RhsValid, RArgsValid}
+use Rattle.meaning.specs.Valid.{Vocabulary, RCount, RhsValid, RArgsValid, Proper}
 use Rattle.table.specs.Side.{Item, item10, item11, item12, item13, item14, item15, item1F, items, first, has_element, has_source, all_allowed, closed, few, words_of, judged, side_number}
-use Rattle.table.specs.Rules.{args_of, rhs_of, known, side_of, count, Owes, OwesAll}
+use Rattle.table.specs.Rules.{args_of, rhs_of, known, side_of, is_rule, picked, or_else, or_empty, side_for, table_of, rules_of, vocabulary, largest_of, largest, count, Owes, OwesAll}
 use Rattle.table.specs.Format.{is_name, number_of, Fields, stop, cut, field, fields, Rule, Contents, nothing, rule_of, key, none_yet, name_refusal, state_refusal, rule_holds, rule_known, rule_refusal, end_refusal, refusal, added, Read, behind_end, check_fields, read}
 use Rattle.table.proofs.Reading.{both, chosen, yet-none, yet-some, as-name, as-state, as-rule, as-none, check-refused, check-end, check-on}
 
@@ -200,10 +211,20 @@ module _ (names : ℕ) (ranks : List ℕ) (p n : ℕ) where
       let c = small-few (words_of ranks is) (few ranks is 0) a.1 in
       record { allowed = b.0; closed = b.1; small = c.0; few = c.1 }
 
+  spelled : (o : Option (List Item)) → judged names ranks p n o 0 0 false ≡ 0 → o ≡ some (known o)
+  unfolding judged
+  spelled none h = absurd (omega arith)
+  spelled (some is) h = refl
+
   module _ (bs : List ℕ) (h : side_number names ranks p n bs ≡ 0) where
     taken-side : Taken (known (items bs first))
     unfolding side_number
     taken-side = taken (items bs first) h
+
+    -- its bytes spell items
+    pub side-spelled : items bs first ≡ some (known (items bs first))
+    unfolding side_number
+    side-spelled = spelled (items bs first) h
 
     -- a right side that is not refused is one of the vocabulary, for each match that its pattern stands for
     pub side-valid : (m : Match) → Stands p m → RhsValid (mentions names ranks) m n (side_of ranks bs)
@@ -349,7 +370,7 @@ said-fields : (fs : Fields) (C : Contents) → Sound C → Said (check_fields C 
 unfolding check_fields
 said-fields (stop at) C S = record { sound = S; some = λ z. absurd (omega arith) }
 said-fields (cut at) C S = record { sound = S; some = λ z. absurd (omega arith) }
-said-fields (field p t c fs) C S = said-field C p t c fs S (λ D T. said-fields fs D T)
+said-fields (field p t c fs) C S = said-field C p t c fs S (λ D U. said-fields fs D U)
 
 sound-nothing : Sound nothing
 sound-nothing = record {
@@ -376,3 +397,145 @@ module _ (l : List ℕ) where
   -- an accepted table has a state
   pub states-read : (read l).number ≡ 0 → 0 < length (read l).contents.ranks
   states-read h = said.some h
+
+-- ---- the table that is read
+
+-- a right side of the vocabulary, no larger than 64, that owes no more than 8 ends
+record Fair (K : Vocabulary) (m : Match) (n : ℕ) (r : Rhs) : Type 0 where
+  valid : RhsValid K m n r
+  small : rhs_size r ≤ 64
+  owes : Owes 0 r
+
+module _ (names : ℕ) (ranks : List ℕ) where
+  -- bytes that are not refused as a right side of a state and pattern, where there are some
+  abbrev Unrefused : (q p : ℕ) → Option (List ℕ) → Type 0
+  Unrefused q p none = Unit {0}
+  Unrefused q p (some bs) = side_number names ranks p (get_or ranks q 0) bs ≡ 0
+
+  picked-unrefused : (rs : List Rule) → All (Fit names ranks) rs → (q p k : ℕ) → Unrefused q p (picked rs q p k)
+  unfolding picked
+  picked-unrefused [] h q p k = tt
+  picked-unrefused (r ∷ rs) h q p k = go (is_rule q p k r) refl (picked-unrefused rs (All-tail (Fit names ranks) r rs h) q p k)
+    where
+      f : Fit names ranks r
+      f = All-head (Fit names ranks) r rs h
+
+      go : (b : Bool) → is_rule q p k r ≡ b → Unrefused q p (picked rs q p k) → Unrefused q p (picked (r ∷ rs) q p k)
+      go true e u =
+          let a = both (eqb r.state q) _ e in
+          let s = eqb-true r.state q a.0 in
+          let t = eqb-true r.pattern p (both (eqb r.pattern p) _ a.1).0 in
+          rw (e, picked) (rw (s, t) at f.side)
+      go false e u = rw (e, picked) u
+
+  abbrev FairAt : ℕ → Match → List ℕ → Type 0
+  FairAt q m bs = Fair (mentions names ranks) m (get_or ranks q 0) (side_of ranks bs)
+
+  fair-side : (q p : ℕ) (m : Match) → Stands p m → (bs : List ℕ) → Unrefused q p (some bs) → FairAt q m bs
+  fair-side q p m s bs h = record {
+    valid = side-valid names ranks p (get_or ranks q 0) bs h m s;
+    small = side-size names ranks p (get_or ranks q 0) bs h;
+    owes = side-owes names ranks p (get_or ranks q 0) bs h;
+  }
+
+  fair-empty : (q : ℕ) (m : Match) → FairAt q m []
+  unfolding side_of items rhs_of rhs_size
+  fair-empty q m = record { valid = tt; small = omega arith; owes = tt }
+
+  fair-picked : (q p : ℕ) (m : Match) → Stands p m → (o : Option (List ℕ)) → Unrefused q p o → FairAt q m (or_empty o)
+  fair-picked q p m s none h = fair-empty q m
+  fair-picked q p m s (some bs) h = fair-side q p m s bs h
+
+  fair-either : (q k : ℕ) (o o' : Option (List ℕ)) → Unrefused q 1 o → Unrefused q 2 o' → FairAt q (on_element k) (or_empty (or_else o o'))
+  fair-either q k none o' h g = fair-picked q 2 (on_element k) (inr refl) o' g
+  fair-either q k (some bs) o' h g = fair-side q 1 (on_element k) (inl refl) bs h
+
+  fair-rule : (rs : List Rule) → All (Fit names ranks) rs → (q : ℕ) (m : Match) → FairAt q m (side_for rs q m)
+  fair-rule rs h q on_empty = fair-picked q 0 on_empty refl (picked rs q 0 0) (picked-unrefused rs h q 0 0)
+  fair-rule rs h q (on_element k) = fair-either q k (picked rs q 1 k) (picked rs q 2 0) (picked-unrefused rs h q 1 k) (picked-unrefused rs h q 2 0)
+  fair-rule rs h q on_character = fair-picked q 3 on_character refl (picked rs q 3 0) (picked-unrefused rs h q 3 0)
+
+  size-rule : (r : Rule) → Fit names ranks r → rhs_size (side_of ranks r.side) ≤ 64
+  size-rule r f = side-size names ranks r.pattern (get_or ranks r.state 0) r.side f.side
+
+  largest_of-most : (rs : List Rule) → All (Fit names ranks) rs → largest_of ranks rs ≤ 64
+  unfolding largest_of
+  largest_of-most [] h = omega arith
+  largest_of-most (r ∷ rs) h = omega (arith, size-rule r (All-head (Fit names ranks) r rs h), largest_of-most rs (All-tail (Fit names ranks) r rs h))
+
+-- each right side of the table is a rule's or empty, so none is larger than the largest
+module _ (ranks : List ℕ) where
+  abbrev optional-size : Option (List ℕ) → ℕ
+  optional-size o = rhs_size (side_of ranks (or_empty o))
+
+  size-empty : optional-size none ≡ 0
+  unfolding side_of items rhs_of rhs_size
+  size-empty = refl
+
+  picked-largest : (rs : List Rule) (q p k : ℕ) → optional-size (picked rs q p k) ≤ largest_of ranks rs
+  unfolding picked largest_of
+  picked-largest [] q p k = omega (arith, size-empty)
+  picked-largest (r ∷ rs) q p k = go (is_rule q p k r) (picked-largest rs q p k)
+    where
+      go : (b : Bool) → optional-size (picked rs q p k) ≤ largest_of ranks rs → optional-size (elim b [ true ↦ some r.side | false ↦ picked rs q p k ]) ≤ max (rhs_size (side_of ranks r.side)) (largest_of ranks rs)
+      go true u = omega arith
+      go false u = omega (arith, u)
+
+  or_else-largest : (k : ℕ) (o o' : Option (List ℕ)) → optional-size o ≤ k → optional-size o' ≤ k → optional-size (or_else o o') ≤ k
+  or_else-largest k none o' h g = g
+  or_else-largest k (some bs) o' h g = h
+
+  rule-largest : (rs : List Rule) (q : ℕ) (m : Match) → rhs_size (side_of ranks (side_for rs q m)) ≤ largest_of ranks rs
+  rule-largest rs q on_empty = picked-largest rs q 0 0
+  rule-largest rs q (on_element n) = or_else-largest (largest_of ranks rs) (picked rs q 1 n) (picked rs q 2 0) (picked-largest rs q 1 n) (picked-largest rs q 2 0)
+  rule-largest rs q on_character = picked-largest rs q 3 0
+
+low : (l : List ℕ) (q : ℕ) → All (λ n. n ≤ 4) l → get_or l q 0 ≤ 4
+low l q h = go (dec_lt q (length l))
+  where
+    go : Dec (q < length l) → get_or l q 0 ≤ 4
+    go (yes g) = h q 0 g
+    go (no g) = omega (arith, get_or_past l q 0 (omega arith))
+
+module _ (l : List ℕ) where
+  abbrev pub says : Contents
+  says = (read l).contents
+
+  fair-read : (q : ℕ) (m : Match) → Fair (vocabulary says) m ((vocabulary says).rank q) ((rules_of l).rule q m)
+  unfolding rules_of table_of
+  fair-read q m = fair-rule (length says.names) says.ranks says.rules (sound-read l).rules q m
+
+  -- each right side is one of the vocabulary
+  pub proper-rules_of : Proper (vocabulary says) (rules_of l)
+  unfolding rules_of table_of
+  proper-rules_of = record { ranks = λ q. refl; rules = λ q m. (fair-read q m).valid }
+
+  -- its size is at most 64
+  pub size-rules_of : (q : ℕ) (m : Match) → rhs_size ((rules_of l).rule q m) ≤ 64
+  size-rules_of q m = (fair-read q m).small
+
+  -- at most 8 ends are owed at any point of it
+  pub owes-rules_of : (q : ℕ) (m : Match) → Owes 0 ((rules_of l).rule q m)
+  owes-rules_of q m = (fair-read q m).owes
+
+  -- the same of each rule's
+  pub sides-read : All (λ r. (rhs_size (side_of says.ranks r.side) ≤ 64) × Owes 0 (side_of says.ranks r.side)) says.rules
+  sides-read k d h =
+      let r = get_or says.rules k d in
+      let f = (sound-read l).rules k d h in
+      (size-rule (length says.names) says.ranks r f, side-owes (length says.names) says.ranks r.pattern (get_or says.ranks r.state 0) r.side f.side)
+
+  -- it is no larger than R
+  pub size-largest : (q : ℕ) (m : Match) → rhs_size ((rules_of l).rule q m) ≤ largest says
+  unfolding rules_of table_of largest
+  size-largest q m = rule-largest says.ranks says.rules q m
+
+  -- R is at most 64
+  pub largest-most : largest says ≤ 64
+  unfolding largest
+  largest-most = largest_of-most (length says.names) says.ranks says.rules (sound-read l).rules
+
+  -- a state has at most 4 carried values
+  pub rank-most : (q : ℕ) → (rules_of l).rank q ≤ 4
+  unfolding rules_of table_of
+  rank-most q = low says.ranks q (sound-read l).ranks
