@@ -5,4 +5,5 @@ pub mod Checking
 pub mod Reading
 pub mod Encode
 pub mod Proper
+pub mod Once
 pub mod Examples
