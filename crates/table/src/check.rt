@@ -1,13 +1,14 @@
 // The check of a table, field by field: refusals 1, 3 and 2.
 //
 // "Table order: total length first, then field by field; within a field 1, 3, 2."
-#![tactic(auto, using(crate::proofs::Checking::check_laws, crate::proofs::Reading::reading_laws), unfolding(crate::specs::Format::name_refusal, crate::specs::Format::state_refusal, crate::specs::Format::end_refusal, crate::specs::Format::rule_refusal, crate::specs::Format::refusal))]
+#![tactic(auto, using(crate::proofs::Checking::check_laws, crate::proofs::Naming::rank_laws, crate::proofs::Reading::reading_laws), unfolding(crate::specs::Format::name_refusal, crate::specs::Format::state_refusal, crate::specs::Format::end_refusal, crate::specs::Format::rule_refusal, crate::specs::Format::refusal))]
 
-ghost use Rattle.std.specs.Prelude.{◌≡◌, ◌-◌, ◌<◌, ◌≤◌, cond, eqb, length};
+ghost use Rattle.std.specs.Prelude.{◌≡◌, ◌-◌, ◌<◌, ◌≤◌, cond, eqb, length, get_or};
 ghost use Rattle.std.specs.List.{list_all};
 ghost use Rattle.alphabet.specs.Classes.{name_part};
 ghost use Rattle.table.specs.Format.{is_name, name_refusal, state_refusal, rule_known, rule_refusal, end_refusal, refusal, read};
 ghost use Rattle.table.specs.Checked.{rule_meant, names_read, ranks_read, names_with, base_with, states_with, next_with, answer};
+ghost use Rattle.table.specs.Side.{side_number};
 ghost use Rattle.table.specs.Tally.{number};
 
 use crate::field::{Field, first_field};
@@ -96,6 +97,21 @@ fn rule_known(names: usize, states: usize, next: usize, rule: &Rule) -> bool
         && next <= rule.key()
 }
 
+// What a known rule's right side says.
+fn side_refusal(names: usize, states: States, rule: &Rule) -> Result<(), Refusal>
+    requires { length rule.now.side.now ≤ 32768 }
+    ensures { number result ≡ side_number names states.entry rule.now.pattern (get_or states.entry rule.now.state 0) rule.now.side.now }
+{
+    let values = usize::from(states.rank(rule.state).unwrap_or(0));
+    let scope = Scope {
+        names,
+        states,
+        pattern: usize::from(rule.pattern),
+        values,
+    };
+    scope.side(rule.side)
+}
+
 // "unknown .. state, name, .. or pattern"; "rules not increasing"; and what the right side says, after some state
 fn rule_refusal(names: usize, states: States, next: usize, content: &[u8]) -> Result<(), Refusal>
     requires { length content.now ≤ 32768 }
@@ -108,14 +124,7 @@ fn rule_refusal(names: usize, states: States, next: usize, content: &[u8]) -> Re
     if !rule_known(names, states.len(), next, &rule) {
         return Err(Refusal::Rule);
     }
-    let values = states.rank(rule.state).map_or(0, usize::from);
-    let scope = Scope {
-        names,
-        states,
-        pattern: usize::from(rule.pattern),
-        values,
-    };
-    scope.side(rule.side)
+    side_refusal(names, states, &rule)
 }
 
 // "length 0; nothing follows", after some state
