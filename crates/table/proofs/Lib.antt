@@ -6,4 +6,5 @@ pub mod Reading
 pub mod Encode
 pub mod Proper
 pub mod Once
+pub mod Indexing
 pub mod Examples

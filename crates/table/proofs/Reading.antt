@@ -142,35 +142,35 @@ name_short [] h = omega arith
 name_short (b ∷ bs) h = omega (arith, ltb-true (length bs) 32 (both _ _ (both _ _ h).1).1)
 
 module _ (names : List (List ℕ)) (ranks : List ℕ) (k : ℕ) (c : List ℕ) where
-  record Name : Type 0 where
-    none : length ranks ≡ 0
-    short : length c ≤ 32
-    room : length names < 128
+  pub record Name : Type 0 where
+    pub none : length ranks ≡ 0
+    pub short : length c ≤ 32
+    pub room : length names < 128
 
-  name_accepted : name_refusal names ranks c ≡ 0 → Name
+  pub name_accepted : name_refusal names ranks c ≡ 0 → Name
   unfolding name_refusal
   name_accepted h =
       let a = chosen (none_yet ranks && (is_name c && eqb (number_of names c) (length names))) _ 0 h in
       let b = both (none_yet ranks) _ a.0 in
       record { none = yet-none ranks b.0; short = name_short c (both _ _ b.1).0; room = ltb-true _ _ (chosen (ltb (length names) 128) 0 1 a.1).0 }
 
-  record State : Type 0 where
-    first : k ≡ 0
-    one : length c ≡ 1
-    room : length ranks < 64
+  pub record State : Type 0 where
+    pub first : k ≡ 0
+    pub one : length c ≡ 1
+    pub room : length ranks < 64
 
-  state_accepted : state_refusal ranks k c ≡ 0 → State
+  pub state_accepted : state_refusal ranks k c ≡ 0 → State
   unfolding state_refusal
   state_accepted h =
       let a = chosen (eqb k 0 && (eqb (length c) 1 && leb (get_or c 0 0) 4)) _ 0 h in
       let b = both (eqb k 0) _ a.0 in
       record { first = eqb-true k 0 b.0; one = eqb-true _ _ (both _ _ b.1).0; room = ltb-true _ _ (chosen (ltb (length ranks) 64) 0 1 a.1).0 }
 
-  record A-rule : Type 0 where
-    some : 0 < length ranks
-    holds : rule_holds c ≡ true
+  pub record A-rule : Type 0 where
+    pub some : 0 < length ranks
+    pub holds : rule_holds c ≡ true
 
-  rule_accepted : (n : ℕ) → rule_refusal n ranks k c ≡ 0 → A-rule
+  pub rule_accepted : (n : ℕ) → rule_refusal n ranks k c ≡ 0 → A-rule
   unfolding rule_refusal
   rule_accepted n h =
       let a = chosen (not (none_yet ranks) && rule_holds c) _ 0 h in

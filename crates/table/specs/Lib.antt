@@ -7,4 +7,5 @@ pub mod Tally
 pub mod Checked
 pub mod Encode
 pub mod Index
+pub mod Indexing
 pub mod Examples

@@ -21,13 +21,13 @@ use crate::states::States;
 use alphabet::{is_name_part, is_name_start};
 
 // the tags of fields
-const NAME: u8 = 1;
+pub(crate) const NAME: u8 = 1;
 
-const STATE: u8 = 2;
+pub(crate) const STATE: u8 = 2;
 
-const RULE: u8 = 3;
+pub(crate) const RULE: u8 = 3;
 
-const END: u8 = 4;
+pub(crate) const END: u8 = 4;
 
 const LONGEST_TABLE: usize = 32768;
 

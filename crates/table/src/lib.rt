@@ -6,6 +6,7 @@
 
 pub mod check;
 mod field;
+pub mod index;
 mod item;
 pub mod names;
 pub mod parts;

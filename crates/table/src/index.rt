@@ -1,0 +1,91 @@
+// The index of a table: where its parts stand, so that nothing is searched for while a log is read.
+#![tactic(auto, unfolding(crate::specs::Indexing::noted_rule, crate::specs::Indexing::noted_name, crate::specs::Indexing::noted_state, crate::specs::Indexing::noted))]
+
+ghost use Rattle.std.specs.Prelude.{◌≡◌, ◌<◌, ◌≤◌, ◌+◌, ◌&&◌, ℕ, cond, eqb, leb, ltb, length, slice_index, get_or, MatchResult};
+ghost use Rattle.table.specs.Format.{read, rule_of, rule_holds};
+ghost use Rattle.table.specs.Checked.{rule_meant};
+ghost use Rattle.table.specs.Tally.{refusal_number};
+ghost use Rattle.table.specs.Index.{Indexed, names_in, states_in};
+ghost use Rattle.table.specs.Indexing.{slots, noted_rule, noted_name, noted_state, noted};
+
+use crate::check::{END, NAME, RULE, STATE, check};
+use crate::field::{Field, first_field};
+use crate::refusal::Refused;
+use crate::rule::{Rule, rule_in};
+
+// So many words an index has.
+pub const INDEX_WORDS: usize = 8514;
+
+// where its parts begin
+const NAMES: usize = 0;
+
+const STATES: usize = 1;
+
+const RANKS: usize = 2;
+
+const PLACES: usize = 66;
+
+const RULES: usize = 194;
+
+// the slots of a state: one for each of 128 names, a character's, and the empty list's
+const SLOTS: usize = 130;
+
+const CHARACTER: usize = 128;
+
+const EMPTY: usize = 129;
+
+// The slots that a rule is for.
+fn slots(rule: &Rule) -> (usize, usize)
+    ensures { result ≡ slots (rule_meant rule.now) }
+{
+    let name = usize::from(rule.name);
+    match rule.pattern {
+        1 => (name, name + 1),
+        2 => (0, CHARACTER),
+        3 => (CHARACTER, EMPTY),
+        _ => (EMPTY, SLOTS),
+    }
+}
+
+// Writes the place into each word that has none.
+fn fill_free(words: &mut [u16], at: u16)
+    ensures { (k : ℕ) → k < length words.old → slice_index words.new k ≡ cond (eqb (slice_index words.old k) 0) at (slice_index words.old k) }
+{
+    for word in words.iter_mut() {
+        if *word == 0 {
+            *word = at;
+        }
+    }
+}
+
+fn note_name(words: &mut [u16], at: u16)
+    requires words { length words.old ≡ 8514 }
+    requires names { names_in words.old < 128 }
+    ensures { (k : ℕ) → slice_index words.new k ≡ noted_name words.old at k }
+{
+    let n = words[NAMES];
+    words[PLACES + usize::from(n)] = at;
+    words[NAMES] = n + 1;
+}
+
+fn note_state(words: &mut [u16], rank: u8)
+    requires words { length words.old ≡ 8514 }
+    requires states { states_in words.old < 64 }
+    ensures { (k : ℕ) → slice_index words.new k ≡ cond (eqb k (2 + states_in words.old)) rank (cond (eqb k 1) (states_in words.old + 1) (slice_index words.old k)) }
+{
+    let q = words[STATES];
+    words[RANKS + usize::from(q)] = u16::from(rank);
+    words[STATES] = q + 1;
+}
+
+// A rule is for the slots where nothing stands yet: rules increase, so a state's 01 rules all come before its 02 rule.
+fn note_rule(words: &mut [u16], rule: &Rule, at: u16)
+    requires words { length words.old ≡ 8514 }
+    requires state { rule.now.state < 64 }
+    requires name { rule.now.name < 128 }
+    ensures { (k : ℕ) → slice_index words.new k ≡ noted_rule (rule_meant rule.now) at k (slice_index words.old k) }
+{
+    let row = RULES + usize::from(rule.state) * SLOTS;
+    let (from, to) = slots(rule);
+    fill_free(&mut words[row + from..row + to], at);
+}
