@@ -1,8 +1,8 @@
 -- The index of a table: what it has after each field, and that it is the table's in the end. Assumes nothing.
-use Rattle.std.proofs.Common.{None, Some, inl, inr, ℕ, zero, suc, ◌≡◌, ◌+◌, ◌*◌, ◌-◌, ◌≤◌, ◌<◌, refl, sym, subst, ap, ap₂, ◌∙◌, Bool, true, false, cond, not, ◌&&◌, ◌||◌, List, [], ◌∷◌, ◌++◌, length, get_or, take, drop, arith, rules}
-use Rattle.std.proofs.lemmas.Bool.{cases_eq, cases_lt, le-leb, lt-leb, leb-true, leb-false, lt-ltb, le-ltb, eqb-true, eqb-false, ltb-true, ltb-false, eq-eqb, ne_eqb}
+use Rattle.std.proofs.Common.{None, Some, inl, inr, ℕ, zero, suc, ◌≡◌, ◌+◌, ◌*◌, ◌-◌, ◌≤◌, ◌<◌, refl, sym, subst, ap, ◌∙◌, Bool, true, false, cond, not, ◌&&◌, ◌||◌, List, [], ◌∷◌, ◌++◌, length, get_or, take, drop, arith, rules}
+use Rattle.std.proofs.lemmas.Bool.{cases_eq, cases_lt, lt-leb, leb-true, leb-false, lt-ltb, le-ltb, eqb-true, eqb-false, ltb-true, ltb-false, eq-eqb, ne_eqb}
 use Rattle.std.proofs.lemmas.Bool.Decides.{nat_tests}
-use Rattle.std.proofs.lemmas.List.{get_or-drop, get_or-take, length-drop, length-take-le, length-append, get_or_at, get_or_append_left, get_or_past, drop-drop, drop-take, places}
+use Rattle.std.proofs.lemmas.List.{nil_from_length, get_or-drop, get_or-take, length-append, get_or_at, get_or_append_left, get_or_past, drop-drop, drop-take, places}
 use borrow.Rule.Slice.PartMut.{put_mid, mid_of}
 use lib.Dec.{leb, ltb, eqb}
 use Rattle.std.proofs.Math.Option.{Option, none, some}
@@ -13,7 +13,7 @@ use Rattle.table.specs.Checked.{front_field}
 use Rattle.table.specs.Names.{name_at}
 use Rattle.table.specs.Rules.{is_rule, picked, or_else, or_empty, rule_for}
 use Rattle.table.specs.Index.{names_in, states_in, slot_of, side_from, side_to, RuleAt, NameAt, known, rank_in, Indexed}
-use Rattle.table.specs.Indexing.{slots, noted_rule, noted_name, noted_state, noted}
+use Rattle.table.specs.Indexing.{slots, Sane, noted_rule, noted_name, noted_state, noted}
 use Rattle.table.proofs.Reading.{both, chosen, Front, front_is, front_none, Name, State, A-rule, name_accepted, state_accepted, rule_accepted, as-name, as-state, as-rule, as-none, check-refused, check-end, check-on, read-fields, reading_long}
 
 -- ---- a part of the words filled where nothing stands
@@ -103,12 +103,6 @@ rule_more rs r k q (on_element n) b h s = rw (picked_more rs r q 1 n, picked_mor
 -- rows of 130
 range_row : (s q from to slot : ℕ) → slot < 130 → to ≤ 130 → (leb (194 + s * 130 + from) (194 + q * 130 + slot) && ltb (194 + q * 130 + slot) (194 + s * 130 + to)) ≡ (eqb s q && (leb from slot && ltb slot to))
 range_row s q from to slot h k = grind (arith, nat_tests)
-
-pub record Sane (r : Rule) : Type 0 where
-  pub state : r.state < 64
-  pub pattern : r.pattern ≤ 3
-  pub name : r.name < 128
-  pub unnamed : (r.pattern ≡ 1 → ⊥) → r.name ≡ 0
 
 abbrev inside : ℕ → ℕ → Rule → Bool
 inside q slot r = leb (194 + r.state * 130 + (slots r).0) (194 + q * 130 + slot) && ltb (194 + q * 130 + slot) (194 + r.state * 130 + (slots r).1)
@@ -378,12 +372,18 @@ module _ (l rest ix : List ℕ) (N : Noting l rest ix) (a : (read l).number ≡ 
   comes-to : (r : Read) → check_fields C (fields_from rest place 0) ≡ r → read l ≡ r
   comes-to r e = read-fields l (accepted-short l a) ∙ sym N.decides ∙ e
 
-  -- so no field is wanting
-  pub noting_cut : 0 < length rest → front_field rest ≡ None → ⊥
-  unfolding check_fields
-  noting_cut z e =
-      let f : read l ≡ record { number = 1; place = place; contents = C } = comes-to _ (ap (check_fields C) (front_none rest place z e)) in
-      omega (arith, ap (λ (r : Read). r.number) f)
+  -- so a field is there
+  cut-number : front_field rest ≡ None → (p : ℕ) → p ≡ length rest → (read l).number ≡ 1
+  unfolding check_fields fields_from
+  cut-number e zero z =
+      let f : read l ≡ record { number = 1; place = place; contents = C } = comes-to _ (ap (λ (d : List ℕ). check_fields C (fields_from d place 0)) (nil_from_length rest (sym z))) in
+      ap (λ (r : Read). r.number) f
+  cut-number e (suc p) z =
+      let f : read l ≡ record { number = 1; place = place; contents = C } = comes-to _ (ap (check_fields C) (front_none rest place (omega arith) e)) in
+      ap (λ (r : Read). r.number) f
+
+  pub noting_none : front_field rest ≡ None → Indexed l ix
+  noting_none e = absurd (omega (arith, cut-number e (length rest) refl))
 
   module _ (t : ℕ) (c d : List ℕ) (e : front_field rest ≡ Some (t, c, d)) where
     abbrev front : Front rest t c d
@@ -575,3 +575,5 @@ module _ (l rest ix : List ℕ) (N : Noting l rest ix) (a : (read l).number ≡ 
           place = H.place;
           rule = λ q m z k. slot-rule l _ _ (H.rule q m (known_small (read l).contents m f k));
         }
+
+pub ruleset index_laws = (noting_start, noting_none, noting_names, noting_states, noting_rule, noting_place, noting_more, noting_end, noting_shorter)

@@ -1,15 +1,28 @@
 -- The index field by field, as the code makes it, and the lookup in it. Assumes nothing.
 --
 --   slots        which slots a rule is for: from the first one until before the second
+--   Sane         what a rule of an accepted table says: a state, a pattern, and a name, which is 0 but for pattern 01
+--   told         number and place of a refusal
 --   noted_rule   a word of the index, at a place, when a rule whose field begins at `at` is noted: it goes where nothing stands yet
 --   noted        a word of the index ix when a field more is noted, which begins at `at`
-use Rattle.std.specs.Prelude.{ℕ, ◌+◌, ◌*◌, cond, ◌&&◌, List, eqb, leb, ltb, get_or}
+use Rattle.std.specs.Prelude.{◌≡◌, ◌<◌, ◌≤◌, ℕ, ◌+◌, ◌*◌, cond, ◌&&◌, List, eqb, leb, ltb, get_or}
+use Rattle.table.specs.declared.refusal.Refused.{Refused}
+use Rattle.table.specs.Tally.{refusal_number}
 use Rattle.table.specs.Format.{Rule, rule_of, rule_holds}
 use Rattle.table.specs.Index.{names_in, states_in}
 
 -- the names' slots are 0 to 127; pattern 02 is for each name that has no rule of its own
 abbrev pub slots : Rule → ℕ × ℕ
 slots r = cond (eqb r.pattern 1) (r.name, r.name + 1) (cond (eqb r.pattern 2) (0, 128) (cond (eqb r.pattern 3) (128, 129) (129, 130)))
+
+abbrev pub told : Refused → ℕ × ℕ
+told r = (refusal_number r.why, r.at)
+
+pub record Sane (r : Rule) : Type 0 where
+  pub state : r.state < 64
+  pub pattern : r.pattern ≤ 3
+  pub name : r.name < 128
+  pub unnamed : (r.pattern ≡ 1 → ⊥) → r.name ≡ 0
 
 unfoldable pub noted_rule : Rule → (at k word : ℕ) → ℕ
 noted_rule r at k word = cond (leb (194 + r.state * 130 + (slots r).0) k && (ltb k (194 + r.state * 130 + (slots r).1) && eqb word 0)) at word

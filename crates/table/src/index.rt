@@ -4,9 +4,8 @@
 ghost use Rattle.std.specs.Prelude.{◌≡◌, ◌<◌, ◌≤◌, ◌+◌, ◌&&◌, ℕ, cond, eqb, leb, ltb, length, slice_index, get_or, MatchResult};
 ghost use Rattle.table.specs.Format.{read, rule_of, rule_holds};
 ghost use Rattle.table.specs.Checked.{rule_meant};
-ghost use Rattle.table.specs.Tally.{refusal_number};
 ghost use Rattle.table.specs.Index.{Indexed, names_in, states_in};
-ghost use Rattle.table.specs.Indexing.{slots, noted_rule, noted_name, noted_state, noted};
+ghost use Rattle.table.specs.Indexing.{slots, told, Sane, noted_rule, noted_name, noted_state, noted};
 
 use crate::check::{END, NAME, RULE, STATE, check};
 use crate::field::{Field, first_field};
@@ -88,4 +87,52 @@ fn note_rule(words: &mut [u16], rule: &Rule, at: u16)
     let row = RULES + usize::from(rule.state) * SLOTS;
     let (from, to) = slots(rule);
     fill_free(&mut words[row + from..row + to], at);
+}
+
+// Notes a field, which begins at a place: a name's place, a state's carried values, or a rule's place.
+fn note(words: &mut [u16], field: &Field, at: u16)
+    requires words { length words.old ≡ 8514 }
+    requires names { field.now.tag ≡ 1 → names_in words.old < 128 }
+    requires states { field.now.tag ≡ 2 → states_in words.old < 64 }
+    requires rule { field.now.tag ≡ 3 → Sane (rule_of field.now.content.now) }
+    ensures { (k : ℕ) → slice_index words.new k ≡ noted words.old field.now.tag field.now.content.now at k }
+{
+    match field.tag {
+        NAME => note_name(words, at),
+        STATE => note_state(words, field.content.first().copied().unwrap_or(0)),
+        RULE => {
+            if let Some(rule) = rule_in(field.content) {
+                note_rule(words, &rule, at);
+            }
+        }
+        _ => {}
+    }
+}
+
+#[tactic(auto, using(crate::proofs::Indexing::index_laws))]
+// Notes the fields of an accepted table one after the other, where no word has anything yet.
+fn note_fields(table: &[u8], words: &mut [u16])
+    requires accepted { (read table.now).number ≡ 0 }
+    requires words { length words.old ≡ 8514 }
+    requires clear { (k : ℕ) → slice_index words.old k ≡ 0 }
+    ensures { Indexed table.now words.new }
+{
+    let mut rest = table;
+    while let Some(field) = first_field(rest) {
+        if field.tag == END {
+            return;
+        }
+        note(words, &field, (table.len() - rest.len()) as u16);
+        rest = field.behind;
+    }
+}
+
+// The index of a table; or why it is refused, and where, and the words stay.
+pub fn index(table: &[u8], words: &mut [u16; INDEX_WORDS]) -> Result<(), Refused>
+    ensures { MatchResult result (λ _. Indexed table.now words.new) (λ r. (told r ≡ ((read table.now).number, (read table.now).place)) × (words.new ≡ words.old)) }
+{
+    check(table)?;
+    words.fill(0);
+    note_fields(table, words);
+    Ok(())
 }

@@ -1,5 +1,5 @@
 -- `table::index::note_rule` meets its contract: the slots of a rule where nothing stands are filled. Assumes nothing.
-use Rattle.std.proofs.Common.{ℕ, ◌+◌, ◌*◌, ◌≤◌, cond, ◌&&◌, eqb, leb, ltb, get_or, length, ◌≡◌, ◌∙◌, ap, ap₂, arith}
+use Rattle.std.proofs.Common.{ℕ, ◌+◌, ◌*◌, ◌≤◌, cond, ◌&&◌, eqb, leb, ltb, get_or, ◌≡◌, ◌∙◌, ap, ap₂, arith}
 use Rattle.std.proofs.Common.{rules}
 use Rattle.table.specs.Format.{Rule}
 use Rattle.table.specs.Checked.{rule_meant}
