@@ -13,7 +13,7 @@ use Rattle.table.specs.Checked.{front_field}
 use Rattle.table.specs.Names.{name_at}
 use Rattle.table.specs.Rules.{is_rule, picked, or_else, or_empty, rule_for}
 use Rattle.table.specs.Index.{names_in, states_in, slot_of, side_from, side_to, RuleAt, NameAt, known, rank_in, Indexed}
-use Rattle.table.specs.Indexing.{slots, Sane, noted_rule, noted_name, noted_state, noted}
+use Rattle.table.specs.Indexing.{slots, KnownRule, noted_rule, noted_name, noted_state, noted}
 use Rattle.table.proofs.Reading.{both, chosen, Front, front_is, front_none, Name, State, A-rule, name_accepted, state_accepted, rule_accepted, as-name, as-state, as-rule, as-none, check-refused, check-end, check-on, read-fields, reading_long}
 
 -- ---- a part of the words filled where nothing stands
@@ -119,7 +119,7 @@ slots_order r h = go (eqb r.pattern 1) (eqb r.pattern 2) (eqb r.pattern 3)
     go false false true = (omega arith, omega arith)
     go false false false = (omega arith, omega arith)
 
-inside-hit : (r : Rule) (q : ℕ) (m : Match) → Sane r → small m → inside q (slot_of m) r ≡ hit r q m
+inside-hit : (r : Rule) (q : ℕ) (m : Match) → KnownRule r → small m → inside q (slot_of m) r ≡ hit r q m
 inside-hit r q m S s = by r.pattern refl m s
   where
     by : (p : ℕ) → r.pattern ≡ p → (m : Match) → small m → inside q (slot_of m) r ≡ hit r q m
@@ -251,7 +251,7 @@ module _ (l ix jx : List ℕ) (C : Contents) (at : ℕ) (H : Holds l ix C) (w : 
             ]
 
   -- a rule more
-  holds_rule : (r : Rule) (k : ℕ) → Sane r → length C.names ≤ 128 → Below C.rules C.next → C.next ≤ key r → 0 < at → RuleAt l at r.side
+  holds_rule : (r : Rule) (k : ℕ) → KnownRule r → length C.names ≤ 128 → Below C.rules C.next → C.next ≤ key r → 0 < at → RuleAt l at r.side
       → ((k : ℕ) → get_or jx k 0 ≡ noted_rule r at k (get_or ix k 0))
       → Holds l jx (record { names = C.names; ranks = C.ranks; rules = C.rules ++ (r ∷ []); next = k })
   unfolding noted_rule
@@ -461,7 +461,7 @@ module _ (l rest ix : List ℕ) (N : Noting l rest ix) (a : (read l).number ≡ 
 
     -- what an accepted rule says
     record Said : Type 0 where
-      sane : Sane (rule_of c)
+      rule : KnownRule (rule_of c)
       next : C.next ≤ key (rule_of c)
 
     said : t ≡ 3 → Said
@@ -474,7 +474,7 @@ module _ (l rest ix : List ℕ) (N : Noting l rest ix) (a : (read l).number ≡ 
         let k1 = both (leb (rule_of c).pattern 3) _ k0.1 in
         let k2 = both (not (eqb (rule_of c).pattern 1) || ltb (rule_of c).name names) _ k1.1 in
         record {
-          sane = record {
+          rule = record {
             state = omega (arith, ltb-true _ _ k0.0, N.some);
             pattern = leb-true _ _ k1.0;
             name = low (eqb (get_or c 1 0) 1) k2.0;
@@ -532,7 +532,7 @@ module _ (l rest ix : List ℕ) (N : Noting l rest ix) (a : (read l).number ≡ 
           let k : eqb t 3 ≡ true = eq-eqb t 3 o in
           let v : 0 < place = omega (arith, N.past A.some) in
           more (record { names = C.names; ranks = C.ranks; rules = C.rules ++ (rule_of c ∷ []); next = suc (key (rule_of c)) }) (rw (i, j, k) refl) N.few N.some (below_more C.rules (rule_of c) C.next N.below S.next)
-          (holds_rule l ix jx C place N.holds w (rule_of c) (suc (key (rule_of c))) S.sane N.few N.below S.next v (rule-at v A.holds) (λ m. f m ∙ rw (i, j, k, A.holds) refl))
+          (holds_rule l ix jx C place N.holds w (rule_of c) (suc (key (rule_of c))) S.rule N.few N.below S.next v (rule-at v A.holds) (λ m. f m ∙ rw (i, j, k, A.holds) refl))
 
       pub noting_more : Noting l d jx
       noting_more = by-tag (eqb t 1) (eqb t 2) (eqb t 3) refl refl refl
@@ -550,8 +550,8 @@ module _ (l rest ix : List ℕ) (N : Noting l rest ix) (a : (read l).number ≡ 
     pub noting_states : t ≡ 2 → states_in ix < 64
     noting_states o = omega (arith, (state_accepted C.names C.ranks C.next c (sym (as-state C.names C.ranks C.next t c o) ∙ fine)).room, N.holds.states)
 
-    pub noting_rule : t ≡ 3 → Sane (rule_of c)
-    noting_rule o = (said o).sane
+    pub noting_rule : t ≡ 3 → KnownRule (rule_of c)
+    noting_rule o = (said o).rule
 
     pub noting_place : place < 65536
     noting_place = omega (arith, accepted-short l a)

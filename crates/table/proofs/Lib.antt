@@ -7,4 +7,5 @@ pub mod Encode
 pub mod Proper
 pub mod Once
 pub mod Indexing
+pub mod Finding
 pub mod Examples

@@ -1,10 +1,11 @@
--- The index field by field, as the code makes it, and the lookup in it. Assumes nothing.
+-- The index field by field, as the code makes it. Assumes nothing.
 --
---   slots        which slots a rule is for: from the first one until before the second
---   Sane         what a rule of an accepted table says: a state, a pattern, and a name, which is 0 but for pattern 01
+--   slots        which slots of its state a rule is for: from the first one until before the second
 --   told         number and place of a refusal
---   noted_rule   a word of the index, at a place, when a rule whose field begins at `at` is noted: it goes where nothing stands yet
---   noted        a word of the index ix when a field more is noted, which begins at `at`
+--   KnownRule    what a rule of an accepted table says: a state, a pattern, and a name, which is 0 but for pattern 01
+--   noted_rule   a word of the index, which stands at k, when a rule is noted whose field begins at `at`: it goes where nothing
+--                stands yet; `noted_name`, `noted_state`: when a name or a state is noted
+--   noted        the same when a field is noted, told by its tag
 use Rattle.std.specs.Prelude.{◌≡◌, ◌<◌, ◌≤◌, ℕ, ◌+◌, ◌*◌, cond, ◌&&◌, List, eqb, leb, ltb, get_or}
 use Rattle.table.specs.declared.refusal.Refused.{Refused}
 use Rattle.table.specs.Tally.{refusal_number}
@@ -18,7 +19,7 @@ slots r = cond (eqb r.pattern 1) (r.name, r.name + 1) (cond (eqb r.pattern 2) (0
 abbrev pub told : Refused → ℕ × ℕ
 told r = (refusal_number r.why, r.at)
 
-pub record Sane (r : Rule) : Type 0 where
+pub record KnownRule (r : Rule) : Type 0 where
   pub state : r.state < 64
   pub pattern : r.pattern ≤ 3
   pub name : r.name < 128

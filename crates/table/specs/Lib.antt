@@ -8,4 +8,5 @@ pub mod Checked
 pub mod Encode
 pub mod Index
 pub mod Indexing
+pub mod Found
 pub mod Examples

@@ -5,7 +5,7 @@ ghost use Rattle.std.specs.Prelude.{◌≡◌, ◌<◌, ◌≤◌, ◌+◌, ◌&
 ghost use Rattle.table.specs.Format.{read, rule_of, rule_holds};
 ghost use Rattle.table.specs.Checked.{rule_meant};
 ghost use Rattle.table.specs.Index.{Indexed, names_in, states_in};
-ghost use Rattle.table.specs.Indexing.{slots, told, Sane, noted_rule, noted_name, noted_state, noted};
+ghost use Rattle.table.specs.Indexing.{slots, told, KnownRule, noted_rule, noted_name, noted_state, noted};
 
 use crate::check::{END, NAME, RULE, STATE, check};
 use crate::field::{Field, first_field};
@@ -24,14 +24,14 @@ const RANKS: usize = 2;
 
 const PLACES: usize = 66;
 
-const RULES: usize = 194;
+pub(crate) const RULES: usize = 194;
 
 // the slots of a state: one for each of 128 names, a character's, and the empty list's
-const SLOTS: usize = 130;
+pub(crate) const SLOTS: usize = 130;
 
-const CHARACTER: usize = 128;
+pub(crate) const CHARACTER: usize = 128;
 
-const EMPTY: usize = 129;
+pub(crate) const EMPTY: usize = 129;
 
 // The slots that a rule is for.
 fn slots(rule: &Rule) -> (usize, usize)
@@ -94,7 +94,7 @@ fn note(words: &mut [u16], field: &Field, at: u16)
     requires words { length words.old ≡ 8514 }
     requires names { field.now.tag ≡ 1 → names_in words.old < 128 }
     requires states { field.now.tag ≡ 2 → states_in words.old < 64 }
-    requires rule { field.now.tag ≡ 3 → Sane (rule_of field.now.content.now) }
+    requires rule { field.now.tag ≡ 3 → KnownRule (rule_of field.now.content.now) }
     ensures { (k : ℕ) → slice_index words.new k ≡ noted words.old field.now.tag field.now.content.now at k }
 {
     match field.tag {
