@@ -9,6 +9,8 @@
 --                and a right side that is not refused; states-read, some state where the table is accepted
 --   proper-rules_of   the table that is spelled is `Proper`; size-rules_of, owes-rules_of, sides-read, the same of its right sides
 --   size-largest, largest-most   none is larger than R, and R is at most 64; rank-most, nor has a state more than 4 values
+use Rattle.meaning.specs.Linear.{Small}
+use Rattle.meaning.proofs.Demand3.{uses-known}
 use Rattle.std.proofs.Common.{ℕ, zero, suc, pred, All, ◌≡◌, ◌+◌, ◌++◌, ◌≤◌, ◌<◌, ◌⊎◌, inl, inr, refl, sym, ap, subst, ◌∙◌, Bool, true, false, cond, not, ◌&&◌, ◌||◌, List, [], ◌∷◌, length, get_or, max, zero-add, suc-add, arith}
 use Rattle.std.proofs.Math.Option.{Option, none, some}
 use Rattle.std.proofs.lemmas.List.{length-append, get_or_past}
@@ -539,3 +541,11 @@ module _ (l : List ℕ) where
   pub rank-most : (q : ℕ) → (rules_of l).rank q ≤ 4
   unfolding rules_of table_of
   rank-most q = low says.ranks q (sound-read l).ranks
+
+  -- so the table is one of those that demand 3 speaks of, where it is linear
+  pub small-rules_of : Small (rules_of l) (largest says)
+  small-rules_of =
+      record {
+        four = λ q m j h. uses-known (vocabulary says) m ((vocabulary says).rank q) j (omega (arith, h, low says.ranks q (sound-read l).ranks)) ((rules_of l).rule q m) (proper-rules_of.rules q m);
+        most = size-largest;
+      }

@@ -1,11 +1,11 @@
 -- The index field by field, as the code makes it. Assumes nothing.
 --
 --   slots        which slots of its state a rule is for: from the first one until before the second
---   told         number and place of a refusal
+--   refused_as   number and place of a refusal
 --   KnownRule    what a rule of an accepted table says: a state, a pattern, and a name, which is 0 but for pattern 01
 --   noted_rule   a word of the index, which stands at k, when a rule is noted whose field begins at `at`: it goes where nothing
 --                stands yet; `noted_name`, `noted_state`: when a name or a state is noted
---   noted        the same when a field is noted, told by its tag
+--   noted        the same when a field is noted, refused_as by its tag
 use Rattle.std.specs.Prelude.{◌≡◌, ◌<◌, ◌≤◌, ℕ, ◌+◌, ◌*◌, cond, ◌&&◌, List, eqb, leb, ltb, get_or}
 use Rattle.table.specs.declared.refusal.Refused.{Refused}
 use Rattle.table.specs.Tally.{refusal_number}
@@ -16,8 +16,8 @@ use Rattle.table.specs.Index.{names_in, states_in}
 abbrev pub slots : Rule → ℕ × ℕ
 slots r = cond (eqb r.pattern 1) (r.name, r.name + 1) (cond (eqb r.pattern 2) (0, 128) (cond (eqb r.pattern 3) (128, 129) (129, 130)))
 
-abbrev pub told : Refused → ℕ × ℕ
-told r = (refusal_number r.why, r.at)
+abbrev pub refused_as : Refused → ℕ × ℕ
+refused_as r = (refusal_number r.why, r.at)
 
 pub record KnownRule (r : Rule) : Type 0 where
   pub state : r.state < 64

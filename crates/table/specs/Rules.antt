@@ -8,12 +8,14 @@
 --   table_of     the table of `meaning` that contents spell; `rules_of`, that a table's bytes spell
 --   vocabulary  what the table lets its expressions mention
 --   largest     R, "the largest size in the table"; 0 where there is no rule
+--   IsLinear    demand 3's class: "each read the children at most once, the siblings at most once and each carried value at most once"
 --   Owes        no more than 8 ends are owed at any point of a right side, with d owed before it
 use Rattle.std.specs.Prelude.{ℕ, zero, suc, ◌+◌, max, ◌≤◌, ◌<◌, Bool, true, false, ◌&&◌, List, [], ◌∷◌, eqb, length, get_or}
 use Rattle.std.proofs.Math.Option.{Option, none, some}
 use Rattle.alphabet.specs.Classes.{is_leaf}
 use Rattle.meaning.specs.Rules.{Match, on_empty, on_element, on_character, Rhs, RArgs, done, element, matched, letter, matched_letter, value, call, no_arg, arg, Table}
 use Rattle.meaning.specs.Count.{rhs_size}
+use Rattle.meaning.specs.Linear.{Linear}
 use Rattle.meaning.specs.Valid.{Vocabulary}
 use Rattle.table.specs.Side.{Item, item10, item11, item12, item13, item14, item15, item1F, items, first}
 use Rattle.table.specs.Format.{Rule, Contents, read}
@@ -86,6 +88,9 @@ largest_of ranks (r ∷ rs) = max (rhs_size (side_of ranks r.side)) (largest_of 
 
 unfoldable pub largest : Contents → ℕ
 largest C = largest_of C.ranks C.rules
+
+abbrev pub IsLinear : List ℕ → Type 0
+IsLinear l = Linear (rules_of l)
 
 unfoldable pub count : RArgs → ℕ
 count no_arg = 0

@@ -5,7 +5,7 @@ ghost use Rattle.std.specs.Prelude.{◌≡◌, ◌<◌, ◌≤◌, ◌+◌, ◌&
 ghost use Rattle.table.specs.Format.{read, rule_of, rule_holds};
 ghost use Rattle.table.specs.Checked.{rule_meant};
 ghost use Rattle.table.specs.Index.{Indexed, names_in, states_in};
-ghost use Rattle.table.specs.Indexing.{slots, told, KnownRule, noted_rule, noted_name, noted_state, noted};
+ghost use Rattle.table.specs.Indexing.{slots, refused_as, KnownRule, noted_rule, noted_name, noted_state, noted};
 
 use crate::check::{END, NAME, RULE, STATE, check};
 use crate::field::{Field, first_field};
@@ -129,7 +129,7 @@ fn note_fields(table: &[u8], words: &mut [u16])
 
 // The index of a table; or why it is refused, and where, and the words stay.
 pub fn index(table: &[u8], words: &mut [u16; INDEX_WORDS]) -> Result<(), Refused>
-    ensures { MatchResult result (λ _. Indexed table.now words.new) (λ r. (told r ≡ ((read table.now).number, (read table.now).place)) × (words.new ≡ words.old)) }
+    ensures { MatchResult result (λ _. Indexed table.now words.new) (λ r. (refused_as r ≡ ((read table.now).number, (read table.now).place)) × (words.new ≡ words.old)) }
 {
     check(table)?;
     words.fill(0);
