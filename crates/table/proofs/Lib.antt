@@ -1,6 +1,7 @@
 pub mod Numbers
 pub mod Naming
 pub mod Sides
+pub mod Tags
 pub mod Checking
 pub mod Reading
 pub mod Encode

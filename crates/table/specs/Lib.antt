@@ -4,6 +4,7 @@ pub mod Rules
 pub mod Names
 pub mod Items
 pub mod Tally
+pub mod Kinds
 pub mod Checked
 pub mod Encode
 pub mod Index

@@ -1,7 +1,7 @@
 // The check of a table, field by field: refusals 1, 3 and 2.
 //
 // "Table order: total length first, then field by field; within a field 1, 3, 2."
-#![tactic(auto, using(crate::proofs::Checking::check_laws, crate::proofs::Naming::rank_laws, crate::proofs::Reading::reading_laws), unfolding(crate::specs::Format::name_refusal, crate::specs::Format::state_refusal, crate::specs::Format::end_refusal, crate::specs::Format::rule_refusal, crate::specs::Format::refusal))]
+#![tactic(auto, using(crate::proofs::Checking::check_laws, crate::proofs::Naming::rank_laws, crate::proofs::Tags::kind_laws, crate::proofs::Reading::reading_laws), unfolding(crate::specs::Format::name_refusal, crate::specs::Format::state_refusal, crate::specs::Format::end_refusal, crate::specs::Format::rule_refusal, crate::specs::Format::refusal))]
 
 ghost use Rattle.std.specs.Prelude.{◌≡◌, ◌-◌, ◌<◌, ◌≤◌, cond, eqb, length, get_or};
 ghost use Rattle.std.specs.List.{list_all};
@@ -11,7 +11,7 @@ ghost use Rattle.table.specs.Checked.{rule_meant, names_read, ranks_read, names_
 ghost use Rattle.table.specs.Side.{side_number};
 ghost use Rattle.table.specs.Tally.{number};
 
-use crate::field::{Field, first_field};
+use crate::field::{Field, Kind, first_field};
 use crate::names::Names;
 use crate::parts::Parts;
 use crate::refusal::{Refusal, Refused};
@@ -19,15 +19,6 @@ use crate::rule::{Rule, rule_in};
 use crate::side::Scope;
 use crate::states::States;
 use alphabet::{is_name_part, is_name_start};
-
-// the tags of fields
-pub(crate) const NAME: u8 = 1;
-
-pub(crate) const STATE: u8 = 2;
-
-pub(crate) const RULE: u8 = 3;
-
-pub(crate) const END: u8 = 4;
 
 const LONGEST_TABLE: usize = 32768;
 
@@ -148,12 +139,12 @@ impl<'a> Parts<'a> {
     {
         let names = Names::new(self.table, self.names);
         let states = States::new(&self.table[self.base..], self.states);
-        match field.tag {
-            NAME => name_refusal(&names, &states, field.content),
-            STATE => state_refusal(&states, self.next, field.content),
-            RULE => rule_refusal(names.len(), states, self.next, field.content),
-            END => end_refusal(&states, field.content),
-            _ => Err(Refusal::Form),
+        match field.kind() {
+            Some(Kind::Name) => name_refusal(&names, &states, field.content),
+            Some(Kind::State) => state_refusal(&states, self.next, field.content),
+            Some(Kind::Rule) => rule_refusal(names.len(), states, self.next, field.content),
+            Some(Kind::End) => end_refusal(&states, field.content),
+            None => Err(Refusal::Form),
         }
     }
 
@@ -167,17 +158,17 @@ impl<'a> Parts<'a> {
         ensures states { result.states ≡ states_with field.now.tag self.now.states }
         ensures next { result.next ≡ next_with field.now.tag field.now.content.now self.now.next }
     {
-        match field.tag {
-            NAME => Parts {
+        match field.kind() {
+            Some(Kind::Name) => Parts {
                 names: self.names + 1,
                 ..*self
             },
-            STATE => Parts {
+            Some(Kind::State) => Parts {
                 base: if self.states == 0 { at } else { self.base },
                 states: self.states + 1,
                 ..*self
             },
-            RULE => Parts {
+            Some(Kind::Rule) => Parts {
                 next: rule_in(field.content).map_or(self.next, |rule| rule.key() + 1),
                 ..*self
             },
@@ -215,7 +206,7 @@ pub fn check(table: &[u8]) -> Result<Parts<'_>, Refused>
         if let Err(why) = parts.refusal(&field) {
             return Err(Refused { why, at });
         }
-        if field.tag == END {
+        if field.is_end() {
             return ended(parts, field.behind);
         }
         parts = parts.with(&field, at);

@@ -1,6 +1,16 @@
 // The fields of a table: a tag, a length of two bytes, and as many bytes.
-ghost use Rattle.std.specs.Prelude.{◌≡◌, None, Some, MatchOption};
+ghost use Rattle.std.specs.Prelude.{◌≡◌, ◌↔◌, None, Some, IsTrue, MatchOption};
 ghost use Rattle.table.specs.Checked.{front_field};
+ghost use Rattle.table.specs.Kinds.{kind_told};
+
+// What a field is, told by its tag.
+#[derive(Clone, Copy, Debug, PartialEq, Eq, Hash)]
+pub enum Kind {
+    Name,
+    State,
+    Rule,
+    End,
+}
 
 // The field that the bytes begin with, and the bytes behind it.
 #[derive(Clone, Copy)]
@@ -26,4 +36,25 @@ pub fn first_field(bytes: &[u8]) -> Option<Field<'_>>
         content,
         behind,
     })
+}
+
+impl<'a> Field<'a> {
+    // Nothing where the tag is none of the four.
+    pub fn kind(&self) -> Option<Kind>
+        ensures { result ≡ kind_told self.now.tag }
+    {
+        match self.tag {
+            1 => Some(Kind::Name),
+            2 => Some(Kind::State),
+            3 => Some(Kind::Rule),
+            4 => Some(Kind::End),
+            _ => None,
+        }
+    }
+
+    pub fn is_end(&self) -> bool
+        ensures { IsTrue result ↔ (self.now.tag ≡ 4) }
+    {
+        matches!(self.kind(), Some(Kind::End))
+    }
 }

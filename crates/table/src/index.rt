@@ -1,5 +1,5 @@
 // The index of a table: where its parts stand, so that nothing is searched for while a log is read.
-#![tactic(auto, unfolding(crate::specs::Indexing::noted_rule, crate::specs::Indexing::noted_name, crate::specs::Indexing::noted_state, crate::specs::Indexing::noted))]
+#![tactic(auto, using(crate::proofs::Tags::kind_laws), unfolding(crate::specs::Indexing::noted_rule, crate::specs::Indexing::noted_name, crate::specs::Indexing::noted_state, crate::specs::Indexing::noted))]
 
 ghost use Rattle.std.specs.Prelude.{◌≡◌, ◌<◌, ◌≤◌, ◌+◌, ◌&&◌, ℕ, cond, eqb, leb, ltb, length, slice_index, get_or, MatchResult};
 ghost use Rattle.table.specs.Format.{read, rule_of, rule_holds};
@@ -7,8 +7,8 @@ ghost use Rattle.table.specs.Checked.{rule_meant};
 ghost use Rattle.table.specs.Index.{Indexed, names_in, states_in};
 ghost use Rattle.table.specs.Indexing.{slots, refused_as, KnownRule, noted_rule, noted_name, noted_state, noted};
 
-use crate::check::{END, NAME, RULE, STATE, check};
-use crate::field::{Field, first_field};
+use crate::check::check;
+use crate::field::{Field, Kind, first_field};
 use crate::refusal::Refused;
 use crate::rule::{Rule, rule_in};
 
@@ -97,10 +97,10 @@ fn note(words: &mut [u16], field: &Field, at: u16)
     requires rule { field.now.tag ≡ 3 → KnownRule (rule_of field.now.content.now) }
     ensures { (k : ℕ) → slice_index words.new k ≡ noted words.old field.now.tag field.now.content.now at k }
 {
-    match field.tag {
-        NAME => note_name(words, at),
-        STATE => note_state(words, field.content.first().copied().unwrap_or(0)),
-        RULE => {
+    match field.kind() {
+        Some(Kind::Name) => note_name(words, at),
+        Some(Kind::State) => note_state(words, field.content.first().copied().unwrap_or(0)),
+        Some(Kind::Rule) => {
             if let Some(rule) = rule_in(field.content) {
                 note_rule(words, &rule, at);
             }
@@ -109,7 +109,7 @@ fn note(words: &mut [u16], field: &Field, at: u16)
     }
 }
 
-#[tactic(auto, using(crate::proofs::Indexing::index_laws))]
+#[tactic(auto, using(crate::proofs::Indexing::index_laws, crate::proofs::Tags::kind_laws))]
 // Notes the fields of an accepted table one after the other, where no word has anything yet.
 fn note_fields(table: &[u8], words: &mut [u16])
     requires accepted { (read table.now).number ≡ 0 }
@@ -119,7 +119,7 @@ fn note_fields(table: &[u8], words: &mut [u16])
 {
     let mut rest = table;
     while let Some(field) = first_field(rest) {
-        if field.tag == END {
+        if field.is_end() {
             return;
         }
         note(words, &field, (table.len() - rest.len()) as u16);

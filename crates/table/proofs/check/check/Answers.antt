@@ -4,7 +4,7 @@ use Rattle.table.specs.Format.{refusal}
 use Rattle.table.specs.Names.{names_at, ranks_at}
 use Rattle.table.specs.Checked.{front_field, answer}
 use Rattle.table.specs.Tally.{refusal_number}
-use Rattle.table.proofs.Reading.{reading_stop, reading_cut, reading_why, reading_end, reading_names, reading_states}
+use Rattle.table.proofs.Reading.{reading_stop, reading_cut, reading_why, reading_end, reading_more, reading_names, reading_states}
 use Rattle.table.proofs.check.check.Goals as goal
 
 pub returns-in_default : goal.returns-in_default
@@ -23,15 +23,15 @@ returns-in-Err c =
     rw (c.in-Err.is, c.loop-parts.invariant.table) at c.refusal.ensures in
     reading_why c.args.table.now c.loop-parts.rest.now p.names p.base p.states p.next c.loop-parts.invariant.reading _ _ _ f c.if-table-gt-LONGEST_TABLE.false c.in-Err.why (sym r)
 
-pub returns-then-field-eq-END : goal.returns-then-field-eq-END
-returns-then-field-eq-END c =
+pub returns-then-is_end : goal.returns-then-is_end
+returns-then-is_end c =
     let p = c.loop-parts.parts in
     let q = c.in-Some.field in
     let f : front_field c.loop-parts.rest.now ≡ Some (q.tag, q.content.now, q.behind.now) = rw c.in-Some.is at c.first_field.ensures in
     let z : refusal (names_at c.args.table.now 0 p.names) (ranks_at (drop p.base c.args.table.now) 0 p.states) p.next q.tag q.content.now ≡ 0 =
     sym (rw c.loop-parts.invariant.table at c.in_default-refusal.ensures) in
     let e : answer (length c.args.table.now) c.ended.result ≡ (cond (eqb (length q.behind.now) 0) 0 1, length c.args.table.now - length q.behind.now) = rw c.loop-parts.invariant.table at c.ended.ensures in
-    e ∙ reading_end c.args.table.now c.loop-parts.rest.now p.names p.base p.states p.next c.loop-parts.invariant.reading _ _ _ f c.if-table-gt-LONGEST_TABLE.false c.if-field-eq-END.true z
+    e ∙ reading_end c.args.table.now c.loop-parts.rest.now p.names p.base p.states p.next c.loop-parts.invariant.reading _ _ _ f c.if-table-gt-LONGEST_TABLE.false (c.is_end.ensures.0 c.if-is_end.true) z
 
 pub with-parts-requires-clause-names : goal.with-parts-requires-clause-names
 with-parts-requires-clause-names c =
@@ -40,7 +40,7 @@ with-parts-requires-clause-names c =
     let f : front_field c.loop-parts.rest.now ≡ Some (q.tag, q.content.now, q.behind.now) = rw c.in-Some.is at c.first_field.ensures in
     let z : refusal (names_at c.args.table.now 0 p.names) (ranks_at (drop p.base c.args.table.now) 0 p.states) p.next q.tag q.content.now ≡ 0 =
     sym (rw c.loop-parts.invariant.table at c.in_default-refusal.ensures) in
-    reading_names c.args.table.now c.loop-parts.rest.now p.names p.base p.states p.next c.loop-parts.invariant.reading _ _ _ f c.if-field-eq-END.false z
+    reading_names c.args.table.now c.loop-parts.rest.now p.names p.base p.states p.next c.loop-parts.invariant.reading _ _ _ f (λ e. let w = c.is_end.ensures.1 e in cc) z
 
 pub with-parts-requires-clause-states : goal.with-parts-requires-clause-states
 with-parts-requires-clause-states c =
@@ -49,10 +49,20 @@ with-parts-requires-clause-states c =
     let f : front_field c.loop-parts.rest.now ≡ Some (q.tag, q.content.now, q.behind.now) = rw c.in-Some.is at c.first_field.ensures in
     let z : refusal (names_at c.args.table.now 0 p.names) (ranks_at (drop p.base c.args.table.now) 0 p.states) p.next q.tag q.content.now ≡ 0 =
     sym (rw c.loop-parts.invariant.table at c.in_default-refusal.ensures) in
-    reading_states c.args.table.now c.loop-parts.rest.now p.names p.base p.states p.next c.loop-parts.invariant.reading _ _ _ f c.if-field-eq-END.false z
+    reading_states c.args.table.now c.loop-parts.rest.now p.names p.base p.states p.next c.loop-parts.invariant.reading _ _ _ f (λ e. let w = c.is_end.ensures.1 e in cc) z
 
 pub returns : goal.returns
 returns c =
     let p = c.loop-parts.parts in
     let z : length c.loop-parts.rest.now ≡ 0 = search rules in
     reading_stop c.args.table.now c.loop-parts.rest.now p.names p.base p.states p.next c.loop-parts.invariant.reading c.if-table-gt-LONGEST_TABLE.false z
+
+pub loop-parts-preserved : goal.loop-parts-preserved
+loop-parts-preserved c =
+    let p = c.loop-parts.parts in
+    let q = c.in-Some.field in
+    let f : front_field c.loop-parts.rest.now ≡ Some (q.tag, q.content.now, q.behind.now) = rw c.in-Some.is at c.first_field.ensures in
+    let z : refusal (names_at c.args.table.now 0 p.names) (ranks_at (drop p.base c.args.table.now) 0 p.states) p.next q.tag q.content.now ≡ 0 =
+    sym (rw c.loop-parts.invariant.table at c.in_default-refusal.ensures) in
+    let r = reading_more c.args.table.now c.loop-parts.rest.now p.names p.base p.states p.next c.loop-parts.invariant.reading _ _ _ f (λ e. let w = c.is_end.ensures.1 e in cc) z in
+    record { table = c.with-parts.ensures.table ∙ c.loop-parts.invariant.table; reading = rw (c.with-parts.ensures.names, c.with-parts.ensures.base, c.with-parts.ensures.states, c.with-parts.ensures.next) r }
