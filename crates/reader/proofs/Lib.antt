@@ -5,3 +5,4 @@ pub mod Place
 pub mod Tags
 pub mod References
 pub mod Read
+pub mod Nesting

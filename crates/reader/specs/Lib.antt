@@ -3,3 +3,5 @@ pub mod Scan
 pub mod Read
 pub mod Place
 pub mod Examples
+pub mod Canonical
+pub mod Nest

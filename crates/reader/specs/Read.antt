@@ -17,13 +17,15 @@ use Rattle.table.specs.Format.{number_of}
 use Rattle.reader.specs.declared.found.Event.TheVariants.{Start, End, Character}
 use Rattle.reader.specs.declared.found.Found.{Found}
 use Rattle.reader.specs.declared.found.Refusal.{Refusal}
-use Rattle.reader.specs.declared.found.Refusal.TheVariants.{Byte, Name, Cut}
+use Rattle.reader.specs.declared.found.Refusal.TheVariants.{Byte, Name, Nest, Depth, Cut}
 use Rattle.reader.specs.Form.{Form, start_of, end_of, text_of, ref_of, meant, spelling}
 use Rattle.reader.specs.Scan.{Scan, whole, cut, bad, scan}
 
 abbrev pub refusal_number : Refusal → ℕ
 refusal_number Byte = 4
 refusal_number Name = 5
+refusal_number Nest = 6
+refusal_number Depth = 7
 refusal_number Cut = 11
 
 abbrev pub number : Result Found Refusal → ℕ

@@ -25,6 +25,8 @@ pub struct Found {
 pub enum Refusal {
     Byte = 4,
     Name = 5,
+    Nest = 6,
+    Depth = 7,
     Cut = 11,
 }
 
@@ -41,7 +43,9 @@ impl fmt::Display for Refusal {
         f.write_str(match self {
             Refusal::Byte => "byte: the bytes begin no event",
             Refusal::Name => "name: the tag's name is not in the table",
-            Refusal::Cut => "cut: the bytes end inside an event",
+            Refusal::Nest => "nest: the end tag does not end the element that is open",
+            Refusal::Depth => "depth: 64 elements are open",
+            Refusal::Cut => "cut: the bytes end inside an event, or an element is open",
         })
     }
 }

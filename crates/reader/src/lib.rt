@@ -5,6 +5,7 @@
 
 mod found;
 mod name;
+mod nest;
 mod reference;
 mod tag;
 
@@ -12,6 +13,7 @@ ghost use Rattle.std.specs.Prelude.{◌≡◌};
 ghost use Rattle.reader.specs.Read.{read_event};
 
 pub use found::{Event, Found, Refusal};
+pub use nest::Open;
 use table::names::Names;
 
 // The first event in `bytes`, with the table's names.
