@@ -72,13 +72,19 @@ fn side_to(table: &[u8], at: usize) -> usize
     }
 }
 
+// The table's bytes from one place to another, as far as there are any.
+fn part(table: &[u8], from: usize, to: usize) -> &[u8]
+    ensures { result.now ≡ slice from to table.now }
+{
+    let end = to.min(table.len());
+    &table[from.min(end)..end]
+}
+
 // The right side of the rule for a state and what is matched; empty where there is no rule.
 pub fn lookup<'a>(table: &'a [u8], words: &[u16], state: u8, matched: Matched) -> &'a [u8]
     ensures place { result.now ≡ side_in table.now words.now state (match_meant matched) }
     ensures side { Indexed table.now words.now → state < length (read table.now).contents.ranks → known (read table.now).contents (match_meant matched) → result.now ≡ side_for (read table.now).contents.rules state (match_meant matched) }
 {
     let at = rule_place(words, state, matched);
-    let to = side_to(table, at).min(table.len());
-    let from = side_from(table, at).min(to);
-    &table[from..to]
+    part(table, side_from(table, at), side_to(table, at))
 }
