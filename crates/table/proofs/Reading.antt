@@ -1,4 +1,7 @@
 -- The loop of the check over a table's fields: what was read so far decides with what is left. Assumes nothing.
+use Rattle.std.specs.Prelude.{Result, Ok, Err, IfOk}
+use Rattle.table.specs.declared.parts.Parts.{Parts}
+use Rattle.table.specs.declared.refusal.Refused.{Refused}
 use Rattle.std.proofs.Common.{ℕ, zero, suc, ◌≡◌, ◌+◌, ◌*◌, ◌-◌, ◌≤◌, ◌<◌, refl, sym, subst, ap, ap₂, ◌∙◌, Bool, true, false, cond, not, ◌&&◌, List, [], ◌∷◌, ◌++◌, length, get_or, take, drop, Some, None, Option, add-zero, arith}
 use Rattle.std.proofs.lemmas.Bool.{le-leb, lt-leb, leb-true, leb-false, eqb-true, eqb-false, ltb-true, eq-eqb, ne_eqb}
 use Rattle.std.proofs.lemmas.List.{nil_from_length, drop-drop, get_or-drop, get_or-take, length-drop, length-take-le, drop-take}
@@ -6,7 +9,7 @@ use Rattle.std.proofs.lemmas.Option.{none-some}
 use Rattle.std.proofs.Math.Dec.{leb, ltb, eqb}
 use Rattle.table.specs.Format.{Fields, stop, cut, field, length_at, whole, fields_from, fields, Contents, nothing, rule_of, key, none_yet, is_name, number_of, name_refusal, state_refusal, rule_refusal, rule_holds, refusal, added, Read, behind_end, check_fields, read}
 use Rattle.table.specs.Names.{name_at, names_at, ranks_at}
-use Rattle.table.specs.Checked.{cut_field, front_field, names_with, base_with, states_with, next_with}
+use Rattle.table.specs.Checked.{Has, cut_field, front_field, names_with, base_with, states_with, next_with}
 use Rattle.table.specs.Tally.{refusal_number}
 use Rattle.table.specs.declared.refusal.Refusal.{Refusal}
 use Rattle.table.specs.declared.refusal.Refusal.TheVariants.{Form, Limit, Rule}
@@ -320,6 +323,16 @@ module _ (l rest : List ℕ) (n b s k : ℕ) (R : Reading l rest n b s k) where
         ∙ sym (behind-end R.contents d (place + 3 + length c))
         ∙ leads l h rest n b s k R (behind_end R.contents behind) (step ∙ check-end R.contents place t c behind z (same-refusal t c ∙ f))
 
+    -- and then what was read is all
+    ended-with : (C : Contents) (fs : Fields) → (behind_end C fs).contents ≡ C
+    ended-with C (stop p) = refl
+    ended-with C (cut p) = refl
+    ended-with C (field p x y fs) = refl
+
+    pub reading_all : length l ≤ 32768 → t ≡ 4 → refused-by t c ≡ 0 → (read l).contents ≡ R.contents
+    reading_all h z f =
+        ap Read.contents (read-fields l h ∙ sym R.decides ∙ step ∙ check-end R.contents place t c behind z (same-refusal t c ∙ f)) ∙ ended-with R.contents behind
+
     -- it is another, and the loop goes on
     module _ (z : t ≡ 4 → ⊥) (f : refused-by t c ≡ 0) where
       on : check_fields (added R.contents t c) (fields_from d (length l - length d) 0) ≡ check_fields nothing (fields l)
@@ -468,6 +481,11 @@ module _ (l rest : List ℕ) (n b s k : ℕ) (R : Reading l rest n b s k) where
 
       pub reading_shorter : length d < length rest
       reading_shorter = omega (arith, front.long)
+
+-- an answer that accepts has the parts that were read
+pub has-of : (l : List ℕ) (q : Parts) → Has l q → (r : Result Parts Refused) → IfOk r (λ p. p ≡ q) → IfOk r (Has l)
+has-of l q h (Ok p) e = subst (Has l) (sym e) h
+has-of l q h (Err r) e = tt
 
 -- a table that is too long
 pub reading_long : (l : List ℕ) → 32768 < length l → (2, 0) ≡ outcome l

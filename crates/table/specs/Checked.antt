@@ -3,9 +3,11 @@
 --   rule_meant    the rule of `Format` that a rule of the code is
 --   names_read    the names that were read so far; `ranks_read`: the carried values of the states
 --   names_with, base_with, states_with, next_with   the numbers of parts with a field more, which begins at a place
+--   Has           parts are those of a table: its names, the carried values of its states, and the least further key
 --   answer        number and place of an answer for a table of so many bytes
 --   front_field   the field that bytes begin with: its tag, its content, and the bytes behind it; nothing where they are too few
 use Rattle.table.specs.Format as format
+use Rattle.std.specs.Prelude.{◌≡◌}
 use Rattle.table.specs.declared.rule.Rule as code
 use Rattle.table.specs.Names.{names_at, ranks_at}
 use Rattle.table.specs.declared.parts.Parts.{Parts}
@@ -47,3 +49,9 @@ next_with tag c k = cond (eqb tag 3 && format.rule_holds c) (suc (format.key (fo
 abbrev pub answer : ℕ → Result Parts Refused → ℕ × ℕ
 answer n (Ok p) = (0, n)
 answer n (Err r) = (refusal_number r.why, r.at)
+
+pub record Has (l : List ℕ) (p : Parts) : Type 0 where
+  pub table : p.table.now ≡ l
+  pub names : names_read p ≡ (format.read l).contents.names
+  pub ranks : ranks_read p ≡ (format.read l).contents.ranks
+  pub next : p.next ≡ (format.read l).contents.next

@@ -3,11 +3,11 @@
 // "Table order: total length first, then field by field; within a field 1, 3, 2."
 #![tactic(auto, using(crate::proofs::Checking::check_laws, crate::proofs::Naming::rank_laws, crate::proofs::Tags::kind_laws, crate::proofs::Reading::reading_laws), unfolding(crate::specs::Format::name_refusal, crate::specs::Format::state_refusal, crate::specs::Format::end_refusal, crate::specs::Format::rule_refusal, crate::specs::Format::refusal))]
 
-ghost use Rattle.std.specs.Prelude.{◌≡◌, ◌-◌, ◌<◌, ◌≤◌, cond, eqb, length, get_or};
+ghost use Rattle.std.specs.Prelude.{◌≡◌, ◌-◌, ◌<◌, ◌≤◌, cond, eqb, length, get_or, IfOk};
 ghost use Rattle.std.specs.List.{list_all};
 ghost use Rattle.alphabet.specs.Classes.{name_part};
 ghost use Rattle.table.specs.Format.{is_name, name_refusal, state_refusal, rule_known, rule_refusal, end_refusal, refusal, read};
-ghost use Rattle.table.specs.Checked.{rule_meant, names_read, ranks_read, names_with, base_with, states_with, next_with, answer};
+ghost use Rattle.table.specs.Checked.{rule_meant, names_read, ranks_read, names_with, base_with, states_with, next_with, answer, Has};
 ghost use Rattle.table.specs.Side.{side_number};
 ghost use Rattle.table.specs.Tally.{number};
 
@@ -179,7 +179,8 @@ impl<'a> Parts<'a> {
 
 // What an accepted table has; or why it is refused, and where.
 pub fn check(table: &[u8]) -> Result<Parts<'_>, Refused>
-    ensures { answer (length table.now) result ≡ ((read table.now).number, (read table.now).place) }
+    ensures answer { answer (length table.now) result ≡ ((read table.now).number, (read table.now).place) }
+    ensures parts { IfOk result (Has table.now) }
 {
     if table.len() > LONGEST_TABLE {
         return Err(Refused {
@@ -221,7 +222,8 @@ pub fn check(table: &[u8]) -> Result<Parts<'_>, Refused>
 // Behind the end field nothing may follow.
 fn ended<'a>(parts: Parts<'a>, behind: &[u8]) -> Result<Parts<'a>, Refused>
     requires { length behind.now ≤ length parts.table.now }
-    ensures { answer (length parts.entry.table.now) result ≡ (cond (eqb (length behind.now) 0) 0 1, length parts.entry.table.now - length behind.now) }
+    ensures answer { answer (length parts.entry.table.now) result ≡ (cond (eqb (length behind.now) 0) 0 1, length parts.entry.table.now - length behind.now) }
+    ensures same { IfOk result (λ p. p ≡ parts.entry) }
 {
     if behind.is_empty() {
         Ok(parts)
