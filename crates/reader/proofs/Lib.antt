@@ -6,3 +6,5 @@ pub mod Tags
 pub mod References
 pub mod Read
 pub mod Nesting
+pub mod Owed
+pub mod NestExamples

@@ -5,3 +5,5 @@ pub mod Place
 pub mod Examples
 pub mod Canonical
 pub mod Nest
+pub mod Owed
+pub mod NestExamples
