@@ -1,0 +1,31 @@
+-- The way back: what the reader reads of what is written. Assumes nothing.
+--
+--   event_in      the event of a token
+--   Named         names of a table: each is a name, and no two are the same
+--   Known         a forest of the table's names and of leaf characters
+--   Reads         the events that are read, one after the other, until no byte is left
+use Rattle.std.specs.Prelude.{ℕ, ◌≡◌, ◌<◌, List, [], ◌∷◌, length, get_or, drop, T}
+use Rattle.std.proofs.Math.Option.{some}
+use Rattle.alphabet.specs.Classes.{is_leaf}
+use Rattle.meaning.specs.Event.{Event, start, char, end}
+use Rattle.meaning.specs.Forest.{Forest, nil, node, leaf, Token, start_tag, end_tag, character}
+use Rattle.reader.specs.Read.{event_of, taken, read_event}
+use Rattle.table.specs.Format.{is_name, number_of}
+
+abbrev pub event_in : Token → Event
+event_in (start_tag n) = start n
+event_in (end_tag n) = end n
+event_in (character c) = char c
+
+pub record Named (names : List (List ℕ)) : Type 0 where
+  pub each : (n : ℕ) → n < length names → T (is_name (get_or names n []))
+  pub once : (n : ℕ) → n < length names → number_of names (get_or names n []) ≡ n
+
+abbrev pub Known : List (List ℕ) → Forest → Type 0
+Known names nil = Unit {0}
+Known names (node n k s) = (n < length names) × Known names k × Known names s
+Known names (leaf c s) = T (is_leaf c) × Known names s
+
+abbrev pub Reads : List (List ℕ) → List ℕ → List Event → Type 0
+Reads names bs [] = bs ≡ []
+Reads names bs (v ∷ vs) = (event_of (read_event names bs) ≡ some v) × Reads names (drop (taken (read_event names bs)) bs) vs

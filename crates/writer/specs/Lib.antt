@@ -1,0 +1,4 @@
+pub mod Bytes
+pub mod Item
+pub mod Laid
+pub mod Back
