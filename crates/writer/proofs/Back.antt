@@ -5,10 +5,11 @@
 --   reads-written    the bytes of a forest are read as its events
 --   reads-once       bytes are read as one list of events
 --   way_back         whatever is read of a forest's bytes is the events of the forest
-use Rattle.std.proofs.Common.{ℕ, ◌+◌, ◌≡◌, ◌≤◌, ◌<◌, refl, sym, ap, ap₂, ◌∙◌, Bool, true, false, cond, not, ◌&&◌, ◌||◌, List, [], ◌∷◌, ◌++◌, append_assoc, map, length, get_or, drop, T, Result, Ok, Err, arith}
+use Rattle.std.proofs.Common.{ℕ, All, ◌+◌, ◌≡◌, ◌≤◌, ◌<◌, refl, sym, ap, ap₂, ◌∙◌, Bool, true, false, cond, not, ◌&&◌, ◌||◌, List, [], ◌∷◌, ◌++◌, append_assoc, map, length, get_or, drop, T, Result, Ok, Err, arith}
 use Rattle.std.proofs.Math.Option.{Option, none, some}
 use Rattle.std.proofs.lemmas.Bool.{eqb-true, lt-ltb}
 use Rattle.std.proofs.lemmas.List.{drop_at}
+use Rattle.std.proofs.lemmas.List.Elements.{All-nil, All-cons, All-append, All-head, All-tail}
 use Rattle.std.proofs.Math.Dec.{eqb, ltb}
 use Rattle.alphabet.specs.Classes.{between, is_markup, is_text, is_leaf}
 use Rattle.meaning.specs.Event.{Event, start, char, end, finish, events, log, spelled}
@@ -22,7 +23,7 @@ use Rattle.reader.specs.Read.{event_of, taken, found_of, named, answered, read_e
 use Rattle.reader.specs.Scan.{scan}
 use Rattle.reader.proofs.Read.{read-begins}
 use Rattle.table.specs.Format.{is_name, number_of}
-use Rattle.writer.specs.Back.{event_in, Named, Known, Reads}
+use Rattle.writer.specs.Back.{event_in, found, Named, Sayable, Known, Reads}
 use Rattle.writer.specs.Bytes.{leaf_form, form_of, bytes_of, bytes_of_stream}
 use Rattle.writer.specs.Item.{item_bytes, Says}
 use Rattle.writer.specs.declared.Item.{Item}
@@ -39,25 +40,6 @@ bytes-item names (item.End name) (character d) h = absurd h
 bytes-item names (item.Character c) (start_tag n) h = absurd h
 bytes-item names (item.Character c) (end_tag n) h = absurd h
 bytes-item names (item.Character c) (character d) h = ap (λ (c : ℕ). spelling (leaf_form c)) h
-
--- the token's name is one of the names, its character a leaf
-abbrev pub Sayable : List (List ℕ) → Token → Type 0
-Sayable names (start_tag n) = n < length names
-Sayable names (end_tag n) = n < length names
-Sayable names (character c) = T (is_leaf c)
-
-abbrev pub AllSayable : List (List ℕ) → Stream → Type 0
-AllSayable names [] = Unit {0}
-AllSayable names (t ∷ ts) = Sayable names t × AllSayable names ts
-
--- the reader's answer for a token of so many bytes
-abbrev pub event_read : Token → Rattle.reader.specs.declared.found.Event.Event
-event_read (start_tag n) = Start n
-event_read (end_tag n) = End n
-event_read (character c) = Character c
-
-abbrev pub found : List (List ℕ) → Token → Found
-found names t = record { event = event_read t; taken = length (bytes_of names t) }
 
 both : (x : Bool) → T x → T (x && true)
 both true h = h
@@ -102,15 +84,14 @@ log_spelled : (f : Forest) → spelled (events f ++ (finish ∷ [])) 0 ≡ f
 unfolding log
 log_spelled f = spelled-log f
 
-sayable_append : (names : List (List ℕ)) (a b : Stream) → AllSayable names a → AllSayable names b → AllSayable names (a ++ b)
-sayable_append names [] b h k = k
-sayable_append names (t ∷ a) b h k = (h.0, sayable_append names a b h.1 k)
-
-pub written_sayable : (names : List (List ℕ)) (f : Forest) → Known names f → AllSayable names (written f)
+pub written_sayable : (names : List (List ℕ)) (f : Forest) → Known names f → All (Sayable names) (written f)
 unfolding written
-written_sayable names nil h = tt
-written_sayable names (node n k s) h = (h.0, sayable_append names (written k) (end_tag n ∷ written s) (written_sayable names k h.1) (h.0, written_sayable names s h.2))
-written_sayable names (leaf c s) h = (h.0, written_sayable names s h.1)
+written_sayable names nil h = All-nil (Sayable names)
+written_sayable names (node n k s) h =
+    All-cons (Sayable names) (start_tag n) (written k ++ (end_tag n ∷ written s)) h.0
+    (All-append (Sayable names) (written k) (end_tag n ∷ written s) (written_sayable names k h.1)
+    (All-cons (Sayable names) (end_tag n) (written s) h.0 (written_sayable names s h.2)))
+written_sayable names (leaf c s) h = All-cons (Sayable names) (character c) (written s) h.0 (written_sayable names s h.1)
 
 -- no byte, no event
 none_read : (names : List (List ℕ)) (bs : List ℕ) (v : Event) → bs ≡ [] → event_of (read_event names bs) ≡ some v → ⊥
@@ -145,14 +126,14 @@ module _ (names : List (List ℕ)) (N : Named names) where
   event_found (end_tag n) = refl
   event_found (character c) = refl
 
-  pub reads-tokens : (ts : Stream) → AllSayable names ts → Reads names (bytes_of_stream names ts) (map event_in ts)
+  pub reads-tokens : (ts : Stream) → All (Sayable names) ts → Reads names (bytes_of_stream names ts) (map event_in ts)
   unfolding bytes_of_stream
   reads-tokens [] h = refl
   reads-tokens (t ∷ ts) h =
-      let e : read_event names (bytes_of names t ++ bytes_of_stream names ts) ≡ Ok (found names t) = read-bytes t (bytes_of_stream names ts) h.0 in
+      let e : read_event names (bytes_of names t ++ bytes_of_stream names ts) ≡ Ok (found names t) = read-bytes t (bytes_of_stream names ts) (All-head (Sayable names) t ts h) in
       let d : drop (taken (read_event names (bytes_of names t ++ bytes_of_stream names ts))) (bytes_of names t ++ bytes_of_stream names ts) ≡ bytes_of_stream names ts =
       ap (λ (r : Result Found Refusal). drop (taken r) (bytes_of names t ++ bytes_of_stream names ts)) e ∙ drop_at (bytes_of names t) (bytes_of_stream names ts) (length (bytes_of names t)) refl in
-      (ap event_of e ∙ event_found t, rw d (reads-tokens ts h.1))
+      (ap event_of e ∙ event_found t, rw d (reads-tokens ts (All-tail (Sayable names) t ts h)))
 
   pub reads-written : (f : Forest) → Known names f → Reads names (bytes_of_stream names (written f)) (events f)
   reads-written f h = rw (sym (events-written f)) (reads-tokens (written f) (written_sayable names f h))
@@ -163,3 +144,8 @@ module _ (names : List (List ℕ)) (N : Named names) where
   -- no two forests have the same bytes
   pub bytes-once : (f g : Forest) → Known names f → Known names g → bytes_of_stream names (written f) ≡ bytes_of_stream names (written g) → f ≡ g
   bytes-once f g h k e = sym (way_back f h (events f) (reads-written f h)) ∙ way_back g k (events f) (rw (sym e) (reads-written f h))
+
+  -- an empty element is a start tag and an end tag
+  pub empty_element : (n : ℕ) → bytes_of_stream names (written (node n nil nil)) ≡ spelling (start_of (get_or names n [])) ++ (spelling (end_of (get_or names n [])) ++ [])
+  unfolding written bytes_of_stream bytes_of
+  empty_element n = refl

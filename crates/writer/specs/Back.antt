@@ -1,25 +1,42 @@
 -- The way back: what the reader reads of what is written. Assumes nothing.
 --
---   event_in      the event of a token
+--   event_in      the event of a token; `event_read`: in the reader's words; `found`: with the bytes that it takes
 --   Named         names of a table: each is a name, and no two are the same
---   Known         a forest of the table's names and of leaf characters
---   Reads         the events that are read, one after the other, until no byte is left
+--   Sayable       a token of the table's names, or of a leaf character; `Known`: a forest of these
+--   Reads         the events that are read of bytes, one after the other, until no byte is left
 use Rattle.std.specs.Prelude.{ℕ, ◌≡◌, ◌<◌, List, [], ◌∷◌, length, get_or, drop, T}
 use Rattle.std.proofs.Math.Option.{some}
 use Rattle.alphabet.specs.Classes.{is_leaf}
 use Rattle.meaning.specs.Event.{Event, start, char, end}
 use Rattle.meaning.specs.Forest.{Forest, nil, node, leaf, Token, start_tag, end_tag, character}
+use Rattle.reader.specs.declared.found.Event as read
+use Rattle.reader.specs.declared.found.Event.TheVariants.{Start, End, Character}
+use Rattle.reader.specs.declared.found.Found.{Found}
 use Rattle.reader.specs.Read.{event_of, taken, read_event}
 use Rattle.table.specs.Format.{is_name, number_of}
+use Rattle.writer.specs.Bytes.{bytes_of}
 
 abbrev pub event_in : Token → Event
 event_in (start_tag n) = start n
 event_in (end_tag n) = end n
 event_in (character c) = char c
 
+abbrev pub event_read : Token → read.Event
+event_read (start_tag n) = Start n
+event_read (end_tag n) = End n
+event_read (character c) = Character c
+
+abbrev pub found : List (List ℕ) → Token → Found
+found names t = record { event = event_read t; taken = length (bytes_of names t) }
+
 pub record Named (names : List (List ℕ)) : Type 0 where
   pub each : (n : ℕ) → n < length names → T (is_name (get_or names n []))
   pub once : (n : ℕ) → n < length names → number_of names (get_or names n []) ≡ n
+
+abbrev pub Sayable : List (List ℕ) → Token → Type 0
+Sayable names (start_tag n) = n < length names
+Sayable names (end_tag n) = n < length names
+Sayable names (character c) = T (is_leaf c)
 
 abbrev pub Known : List (List ℕ) → Forest → Type 0
 Known names nil = Unit {0}
