@@ -1,28 +1,29 @@
 -- The way back: what is written is read again, event for event, and the forest is got back. Assumes nothing.
 --
---   bytes-item       an item that is a token has the token's bytes
---   read-bytes       a token's bytes, whatever stands behind them, are read as the token's event, all of them and no more
---   reads-written    the bytes of a forest are read as its events
---   reads-once       bytes are read as one list of events
---   way_back         whatever is read of a forest's bytes is the events of the forest
-use Rattle.std.proofs.Common.{ℕ, All, ◌+◌, ◌≡◌, ◌≤◌, ◌<◌, refl, sym, ap, ap₂, ◌∙◌, Bool, true, false, cond, not, ◌&&◌, ◌||◌, List, [], ◌∷◌, ◌++◌, append_assoc, map, length, get_or, drop, T, Result, Ok, Err, arith}
+--   bytes-item      an item that is a token has the token's bytes
+--   empty_element   an empty element is a start tag and an end tag
+--   read-bytes      a token's bytes, whatever stands behind them, are read as the token's event, all of them and no more
+--   reads-written   the bytes of a forest are read as its events, event by event, to the last byte
+--   reads-once      bytes are read as one list of events
+--   way_back        whatever is read of a forest's bytes spells the forest
+--   bytes-once      no two forests have the same bytes
+use Rattle.std.proofs.Common.{ℕ, All, ◌≡◌, refl, sym, ap, ap₂, ◌∙◌, Bool, true, false, cond, not, ◌&&◌, ◌||◌, List, [], ◌∷◌, ◌++◌, map, length, get_or, drop, T, Result, Ok}
 use Rattle.std.proofs.Math.Option.{Option, none, some}
 use Rattle.std.proofs.lemmas.Bool.{eqb-true, lt-ltb}
 use Rattle.std.proofs.lemmas.List.{drop_at}
 use Rattle.std.proofs.lemmas.List.Elements.{All-nil, All-cons, All-append, All-head, All-tail}
-use Rattle.std.proofs.Math.Dec.{eqb, ltb}
-use Rattle.alphabet.specs.Classes.{between, is_markup, is_text, is_leaf}
+use Rattle.std.proofs.Math.Dec.{eqb}
+use Rattle.alphabet.specs.Classes.{is_text, is_leaf}
 use Rattle.meaning.specs.Event.{Event, start, char, end, finish, events, log, spelled}
 use Rattle.meaning.specs.Forest.{Forest, nil, node, leaf, Token, start_tag, end_tag, character, Stream, written}
 use Rattle.meaning.proofs.Event.{spelled-log}
-use Rattle.reader.specs.declared.found.Event.TheVariants.{Start, End, Character}
+use Rattle.reader.specs.declared.found.Event.TheVariants.{Character}
 use Rattle.reader.specs.declared.found.Found.{Found}
 use Rattle.reader.specs.declared.found.Refusal.{Refusal}
-use Rattle.reader.specs.Form.{Form, start_of, end_of, text_of, ref_of, lt, gt, amp, Allowed, Begins, spelling}
-use Rattle.reader.specs.Read.{event_of, taken, found_of, named, answered, read_event}
+use Rattle.reader.specs.Form.{Form, start_of, end_of, text_of, ref_of, lt, gt, amp, Allowed, spelling}
+use Rattle.reader.specs.Read.{event_of, taken, found_of, answered, read_event}
 use Rattle.reader.specs.Scan.{scan}
 use Rattle.reader.proofs.Read.{read-begins}
-use Rattle.table.specs.Format.{is_name, number_of}
 use Rattle.writer.specs.Back.{event_in, found, Named, Sayable, Known, Reads}
 use Rattle.writer.specs.Bytes.{leaf_form, form_of, bytes_of, bytes_of_stream}
 use Rattle.writer.specs.Item.{item_bytes, Says}
@@ -68,6 +69,10 @@ leaf_found names c = go (eqb c 60) (eqb c 62) (eqb c 38) refl refl refl
     go false true z e f g = rw (eqb-true c 62 f) refl
     go false false true e f g = rw (eqb-true c 38 g) refl
     go false false false e f g = refl
+
+pub empty_element : (names : List (List ℕ)) (n : ℕ) → bytes_of_stream names (written (node n nil nil)) ≡ spelling (start_of (get_or names n [])) ++ (spelling (end_of (get_or names n [])) ++ [])
+unfolding written bytes_of_stream bytes_of
+empty_element names n = refl
 
 -- the events of what is written
 events-append : (a b : Stream) → map event_in (a ++ b) ≡ map event_in a ++ map event_in b
@@ -141,11 +146,5 @@ module _ (names : List (List ℕ)) (N : Named names) where
   pub way_back : (f : Forest) → Known names f → (vs : List Event) → Reads names (bytes_of_stream names (written f)) vs → spelled (vs ++ (finish ∷ [])) 0 ≡ f
   way_back f h vs r = ap (λ (ws : List Event). spelled ws 0) (ap (λ (ws : List Event). ws ++ (finish ∷ [])) (reads-once names (bytes_of_stream names (written f)) vs (events f) r (reads-written f h))) ∙ log_spelled f
 
-  -- no two forests have the same bytes
   pub bytes-once : (f g : Forest) → Known names f → Known names g → bytes_of_stream names (written f) ≡ bytes_of_stream names (written g) → f ≡ g
   bytes-once f g h k e = sym (way_back f h (events f) (reads-written f h)) ∙ way_back g k (events f) (rw (sym e) (reads-written f h))
-
-  -- an empty element is a start tag and an end tag
-  pub empty_element : (n : ℕ) → bytes_of_stream names (written (node n nil nil)) ≡ spelling (start_of (get_or names n [])) ++ (spelling (end_of (get_or names n [])) ++ [])
-  unfolding written bytes_of_stream bytes_of
-  empty_element n = refl

@@ -1,13 +1,18 @@
--- Bytes laid into the output, one part after the other. Assumes nothing.
-use Rattle.std.proofs.Common.{ℕ, ◌+◌, ◌-◌, ◌≡◌, ◌≤◌, ◌<◌, refl, sym, ap, ap₂, ◌∙◌, Bool, true, false, cond, List, [], ◌∷◌, ◌++◌, append_assoc, Option, Some, None, length, take, drop, length-append, length-drop, zero-add, append-nil, arith}
+-- Bytes laid into the output, one part after the other: what the check uses to prove the code. Assumes nothing.
+--
+--   behind, at_front, over_two      parts laid one behind the other are laid as one
+--   over_part, over_tag             what `put` and `tag` lay
+--   no_room, some_room              the size that a write answers; not_laid, all_laid: the output then
+--   laid_part                       what is laid into the unused tail
+use Rattle.std.proofs.Common.{ℕ, ◌+◌, ◌-◌, ◌≡◌, ◌≤◌, ◌<◌, refl, sym, ap, ap₂, ◌∙◌, Bool, true, false, cond, List, ◌++◌, append_assoc, Some, None, length, take, drop, length-append, length-drop, zero-add, append-nil, arith}
 use Rattle.std.proofs.lemmas.Bool.{le-leb, lt-leb, leb-true, leb-false}
 use Rattle.std.proofs.lemmas.List.{take_at, drop_at, drop-drop, drop_all, take_rest, take-append-drop}
 use Rattle.std.proofs.Math.Dec.{leb}
 use borrow.Rule.Slice.PartMut.{put_mid}
-use Rattle.writer.specs.Laid.{over, has_room, room, laid}
+use Rattle.writer.specs.Laid.{over, room, laid}
 
 -- behind what stands in front
-behind : (a t v : List ℕ) → over (a ++ t) (length a) v ≡ a ++ (v ++ drop (length v) t)
+pub behind : (a t v : List ℕ) → over (a ++ t) (length a) v ≡ a ++ (v ++ drop (length v) t)
 unfolding over
 behind a t v = ap₂ ◌++◌ (take_at a t (length a) refl) (ap (λ (x : List ℕ). v ++ x) (sym (drop-drop (length v) (length a) (a ++ t)) ∙ ap (drop (length v)) (drop_at a t (length a) refl)))
 
@@ -25,17 +30,19 @@ over_two l u v =
     ∙ sym (append_assoc u v (drop (length (u ++ v)) l))
     ∙ sym (at_front l (u ++ v))
 
+-- a tag's three parts
 pub over_tag : (o p q u v w : List ℕ) → p ≡ over o 0 u → q ≡ over p (length u) v → over q (length u + length v) w ≡ over o 0 (u ++ (v ++ w))
 over_tag o p q u v w e f =
     ap₂ (λ (x : List ℕ) (n : ℕ). over x n w) (f ∙ ap (λ (x : List ℕ). over x (length u) v) e ∙ over_two o u v) (sym (length-append u v))
     ∙ over_two o (u ++ v) w
     ∙ ap (over o 0) (append_assoc u v w)
 
--- a part written over
+-- a part of the output, written over
 pub over_part : (l p v : List ℕ) (i : ℕ) → p ≡ v → put_mid i (i + length v - i) l p ≡ over l i v
 unfolding over
 over_part l p v i e = rw e (ap (λ (x : List ℕ). take i l ++ (v ++ x)) (drop-drop (i + length v - i) i l ∙ ap (λ (n : ℕ). drop n l) (let h : i + (i + length v - i) ≡ i + length v = omega arith in h)))
 
+-- with room and without
 module _ (l v : List ℕ) where
   pub no_room : (i : ℕ) → length l < i + length v → None ≡ room l i v
   unfolding room

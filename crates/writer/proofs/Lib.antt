@@ -1,3 +1,4 @@
 pub mod Laid
+pub mod Stays
 pub mod Back
 pub mod Names

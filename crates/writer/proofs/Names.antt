@@ -1,12 +1,19 @@
--- The names that are read of a table are names, and no two are the same. Assumes nothing.
-use Rattle.std.proofs.Common.{ℕ, zero, suc, ◌+◌, ◌≡◌, ◌≤◌, ◌<◌, refl, sym, ap, subst, ◌∙◌, Bool, true, false, cond, not, ◌&&◌, ◌||◌, List, [], ◌∷◌, ◌++◌, length, get_or, T, length-append, arith}
+-- The names that are read of a table are names, and no two are the same; so the way back holds of every table. Assumes nothing.
+--
+--   named-read      of every list of bytes, accepted or not: the names before the field that is refused
+--   way_back-read   the forest is got back from its bytes, with these names
+use Rattle.std.proofs.Common.{ℕ, zero, suc, ◌≡◌, ◌<◌, refl, sym, ap, subst, ◌∙◌, Bool, true, false, cond, ◌&&◌, List, [], ◌∷◌, ◌++◌, length, get_or, T, length-append, arith}
 use Rattle.std.proofs.Math.Dec.{eqb, leb, ltb}
 use Rattle.std.proofs.lemmas.Bool.{eqb-true, eqb-false, ltb-true, ltb-false}
 use Rattle.std.proofs.lemmas.List.{get_or_append_left, get_or_at}
+use Rattle.meaning.specs.Event.{Event, finish, spelled}
+use Rattle.meaning.specs.Forest.{Forest, written}
 use Rattle.table.specs.Format.{is_name, same_bytes, counted, number_of, Fields, stop, cut, field, fields, Contents, nothing, rule_of, key, none_yet, name_refusal, refusal, added, Read, behind_end, check_fields, read}
 use Rattle.table.proofs.Numbers.{same_refl}
 use Rattle.table.proofs.Reading.{both, chosen, as-name, check-refused, check-end, check-on}
-use Rattle.writer.specs.Back.{Named}
+use Rattle.writer.specs.Back.{Named, Known, Reads}
+use Rattle.writer.specs.Bytes.{bytes_of_stream}
+use Rattle.writer.proofs.Back.{way_back}
 
 -- a name's number stays when a name is added behind
 number_kept : (b c : List ℕ) (names : List (List ℕ)) → number_of names b < length names → number_of (names ++ (c ∷ [])) b ≡ number_of names b
@@ -94,7 +101,6 @@ named_fields (field p t c fs) C N = named_field C p t c fs N (λ D U. named_fiel
 named_nothing : Named []
 named_nothing = record { each = λ n l. absurd (omega arith); once = λ n l. absurd (omega arith) }
 
--- of every list of bytes, accepted or not: the names before the field that is refused
 pub named-read : (l : List ℕ) → Named (read l).contents.names
 unfolding read
 named-read l = go (leb (length l) 32768)
@@ -102,3 +108,6 @@ named-read l = go (leb (length l) 32768)
     go : (b : Bool) → Given (elim b [ true ↦ check_fields nothing (fields l) | false ↦ record { number = 2; place = 0; contents = nothing } ])
     go true = named_fields (fields l) nothing named_nothing
     go false = named_nothing
+
+pub way_back-read : (l : List ℕ) (f : Forest) → Known (read l).contents.names f → (vs : List Event) → Reads (read l).contents.names (bytes_of_stream (read l).contents.names (written f)) vs → spelled (vs ++ (finish ∷ [])) 0 ≡ f
+way_back-read l f h vs r = way_back (read l).contents.names (named-read l) f h vs r

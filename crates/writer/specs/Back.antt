@@ -1,9 +1,9 @@
 -- The way back: what the reader reads of what is written. Assumes nothing.
 --
---   event_in      the event of a token; `event_read`: in the reader's words; `found`: with the bytes that it takes
---   Named         names of a table: each is a name, and no two are the same
---   Sayable       a token of the table's names, or of a leaf character; `Known`: a forest of these
---   Reads         the events that are read of bytes, one after the other, until no byte is left
+--   event_in   the event of a token; `event_read`: in the reader's words; `found`: the reader's answer, all the token's bytes taken
+--   Named      names of a table: each is a name, and no two are the same
+--   Sayable    a token with one of the table's names, or with a leaf character; `Known`: a forest of these
+--   Reads      the events that are read of bytes, one after the other, until no byte is left
 use Rattle.std.specs.Prelude.{ℕ, ◌≡◌, ◌<◌, List, [], ◌∷◌, length, get_or, drop, T}
 use Rattle.std.proofs.Math.Option.{some}
 use Rattle.alphabet.specs.Classes.{is_leaf}

@@ -3,7 +3,7 @@
 // onward; all other bytes stay. A first free byte past the output's end means that none is free."
 #![tactic(auto, using(crate::proofs::Laid::laid_laws))]
 
-ghost use Rattle.std.specs.Prelude.{◌≡◌, ◌+◌, ◌≤◌, length, take, drop, [], ◌∷◌, ◌++◌};
+ghost use Rattle.std.specs.Prelude.{◌≡◌, ◌+◌, ◌≤◌, length, [], ◌∷◌, ◌++◌};
 ghost use Rattle.reader.specs.Form.{spelling};
 ghost use Rattle.writer.specs.Bytes.{leaf_form};
 ghost use Rattle.writer.specs.Item.{item_bytes};
@@ -59,6 +59,7 @@ fn tag(out: &mut [u8], open: &[u8], name: &[u8])
     put(out, open.len() + name.len(), b">");
 }
 
+// A character's bytes: a reference for `<`, `>` and `&`, every other leaf as its byte.
 #[tactic(auto, unfolding(crate::specs::Bytes::leaf_form))]
 fn character(out: &mut [u8], c: u8)
     requires { length (spelling (leaf_form c)) ≤ length out.old }
@@ -72,6 +73,7 @@ fn character(out: &mut [u8], c: u8)
     }
 }
 
+// An item's bytes, where they have room.
 #[tactic(auto, unfolding(crate::specs::Item::item_bytes))]
 fn lay(out: &mut [u8], item: Item)
     requires { length (item_bytes item) ≤ length out.old }
