@@ -2,3 +2,4 @@ pub mod Laid
 pub mod Stays
 pub mod Back
 pub mod Names
+pub mod WayBack

@@ -4,7 +4,7 @@
 --   Named      names of a table: each is a name, and no two are the same
 --   Sayable    a token with one of the table's names, or with a leaf character; `Known`: a forest of these
 --   Reads      the events that are read of bytes, one after the other, until no byte is left
-use Rattle.std.specs.Prelude.{ℕ, ◌≡◌, ◌<◌, List, [], ◌∷◌, length, get_or, drop, T}
+use Rattle.std.specs.Prelude.{ℕ, suc, max, ◌≡◌, ◌<◌, List, [], ◌∷◌, length, get_or, drop, T}
 use Rattle.std.proofs.Math.Option.{some}
 use Rattle.alphabet.specs.Classes.{is_leaf}
 use Rattle.meaning.specs.Event.{Event, start, char, end}
@@ -46,3 +46,8 @@ Known names (leaf c s) = T (is_leaf c) × Known names s
 abbrev pub Reads : List (List ℕ) → List ℕ → List Event → Type 0
 Reads names bs [] = bs ≡ []
 Reads names bs (v ∷ vs) = (event_of (read_event names bs) ≡ some v) × Reads names (drop (taken (read_event names bs)) bs) vs
+
+unfoldable pub nests : Forest → ℕ
+nests nil = 0
+nests (node n k s) = max (suc (nests k)) (nests s)
+nests (leaf c s) = nests s

@@ -50,13 +50,13 @@ fn put(out: &mut [u8], at: usize, bytes: &[u8])
 }
 
 // A tag's bytes: what opens it, its name, and `>`.
-fn tag(out: &mut [u8], open: &[u8], name: &[u8])
-    requires { length (open.now ++ (name.now ++ (62 ∷ []))) ≤ length out.old }
-    ensures { out.new ≡ over out.old 0 (open.now ++ (name.now ++ (62 ∷ []))) }
+fn tag(out: &mut [u8], front: &[u8], name: &[u8])
+    requires { length (front.now ++ (name.now ++ (62 ∷ []))) ≤ length out.old }
+    ensures { out.new ≡ over out.old 0 (front.now ++ (name.now ++ (62 ∷ []))) }
 {
-    put(out, 0, open);
-    put(out, open.len(), name);
-    put(out, open.len() + name.len(), b">");
+    put(out, 0, front);
+    put(out, front.len(), name);
+    put(out, front.len() + name.len(), b">");
 }
 
 // A character's bytes: a reference for `<`, `>` and `&`, every other leaf as its byte.
