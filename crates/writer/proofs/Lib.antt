@@ -3,3 +3,4 @@ pub mod Stays
 pub mod Back
 pub mod Names
 pub mod WayBack
+pub mod Examples
