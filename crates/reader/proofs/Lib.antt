@@ -8,3 +8,4 @@ pub mod Read
 pub mod Nesting
 pub mod Owed
 pub mod NestExamples
+pub mod Given

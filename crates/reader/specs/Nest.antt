@@ -1,7 +1,7 @@
--- The nesting of tags: the names of the open elements, and what a reader owes the machine. Assumes nothing.
+-- The nesting of tags: the names of the open elements, and which events may come. Assumes nothing.
 --
 -- Document 01, refusals 6, 7 and 11: "end tag with nothing open, or another name open"; "a 65th open element"; "finish with an
--- element open".
+-- element open". proofs/Given.antt: each is given exactly then.
 --
 --   nested        the open names after an event, the innermost first; or nest, depth or cut
 --   meant_event   a reader's event as meaning has it

@@ -1,7 +1,7 @@
 -- What a reader owes the machine, whatever the form of its logs: matched events within the depth. Assumes nothing.
 --
 -- Document 02, (xii): "State once, over both, what a reader owes the machine: matched start and end events within the depth."
--- The names are those of the table (refusal 5), the characters leaves.
+-- The names are those of the table (refusal 5), the characters leaves. proofs/Owed.antt: with `nested`, no more and no less.
 --
 --   OfTable     the event's name is one of so many, its character a leaf; `AllOfTable`: of each event
 --   Begun       the events are the first of a matched log

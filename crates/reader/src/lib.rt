@@ -1,6 +1,6 @@
 // The first event in offered bytes, with the table's names, and how many bytes it took; or a refusal: byte, name or cut.
 // Document 01, "The log": "An event is offered as bytes: the first event in them is taken and the answer says how many bytes it
-// took." Nothing behind that event is looked at.
+// took." Nothing behind that event is looked at. `Open` says which events may come, one after the other: nest, depth or cut.
 #![tactic(auto, using(crate::proofs::Read::event_laws))]
 
 mod found;
