@@ -57,8 +57,7 @@ fn fill_free(words: &mut [u16], at: u16)
     }
 }
 
-fn note_name(words: &mut [u16], at: u16)
-    requires words { length words.old ≡ 8514 }
+fn note_name(words: &mut [u16; INDEX_WORDS], at: u16)
     requires names { names_in words.old < 128 }
     ensures { (k : ℕ) → slice_index words.new k ≡ noted_name words.old at k }
 {
@@ -67,8 +66,7 @@ fn note_name(words: &mut [u16], at: u16)
     words[NAMES] = n + 1;
 }
 
-fn note_state(words: &mut [u16], rank: u8)
-    requires words { length words.old ≡ 8514 }
+fn note_state(words: &mut [u16; INDEX_WORDS], rank: u8)
     requires states { states_in words.old < 64 }
     ensures { (k : ℕ) → slice_index words.new k ≡ cond (eqb k (2 + states_in words.old)) rank (cond (eqb k 1) (states_in words.old + 1) (slice_index words.old k)) }
 {
@@ -78,8 +76,7 @@ fn note_state(words: &mut [u16], rank: u8)
 }
 
 // A rule is for the slots where nothing stands yet: rules increase, so a state's 01 rules all come before its 02 rule.
-fn note_rule(words: &mut [u16], rule: &Rule, at: u16)
-    requires words { length words.old ≡ 8514 }
+fn note_rule(words: &mut [u16; INDEX_WORDS], rule: &Rule, at: u16)
     requires state { rule.now.state < 64 }
     requires name { rule.now.name < 128 }
     ensures { (k : ℕ) → slice_index words.new k ≡ noted_rule (rule_meant rule.now) at k (slice_index words.old k) }
@@ -90,8 +87,7 @@ fn note_rule(words: &mut [u16], rule: &Rule, at: u16)
 }
 
 // Notes a field, which begins at a place: a name's place, a state's carried values, or a rule's place.
-fn note(words: &mut [u16], field: &Field, at: u16)
-    requires words { length words.old ≡ 8514 }
+fn note(words: &mut [u16; INDEX_WORDS], field: &Field, at: u16)
     requires names { field.now.tag ≡ 1 → names_in words.old < 128 }
     requires states { field.now.tag ≡ 2 → states_in words.old < 64 }
     requires rule { field.now.tag ≡ 3 → KnownRule (rule_of field.now.content.now) }
@@ -111,9 +107,8 @@ fn note(words: &mut [u16], field: &Field, at: u16)
 
 #[tactic(auto, using(crate::proofs::Indexing::index_laws, crate::proofs::Tags::kind_laws))]
 // Notes the fields of an accepted table one after the other, where no word has anything yet.
-fn note_fields(table: &[u8], words: &mut [u16])
+fn note_fields(table: &[u8], words: &mut [u16; INDEX_WORDS])
     requires accepted { (read table.now).number ≡ 0 }
-    requires words { length words.old ≡ 8514 }
     requires clear { (k : ℕ) → slice_index words.old k ≡ 0 }
     ensures { Indexed table.now words.new }
 {

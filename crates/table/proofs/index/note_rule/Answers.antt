@@ -20,5 +20,5 @@ returns c =
     let f : c.from.result ≡ r.state = c.from.ensures in
     let a : 194 + c.from.result * 130 + c.slots-from.result.0 ≡ 194 + r.state * 130 + (slots r).0 = ap₂ (λ (s i : ℕ). 194 + s * 130 + i) f z0 in
     let e : 194 + c.from.result * 130 + c.slots-from.result.1 ≡ 194 + r.state * 130 + (slots r).1 = ap₂ (λ (s i : ℕ). 194 + s * 130 + i) f z1 in
-    filled xs c.fill_free.new.words _ _ c.args.at (omega (arith, o.0)) (omega (arith, o.1, c.requires.state, c.requires.words)) (search rules) c.fill_free.ensures k
+    filled xs c.fill_free.new.words _ _ c.args.at (omega (arith, o.0)) (omega (arith, o.1, c.requires.state)) (search rules) c.fill_free.ensures k
     ∙ ap₂ (λ (i j : ℕ). cond (leb i k && (ltb k j && eqb (get_or xs k 0) 0)) c.args.at (get_or xs k 0)) a e
