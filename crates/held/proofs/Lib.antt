@@ -4,3 +4,4 @@ pub mod Room
 pub mod Read
 pub mod Scan
 pub mod Skip
+pub mod Examples

@@ -2,3 +2,4 @@ pub mod Words
 pub mod Read
 pub mod Scan
 pub mod Skip
+pub mod Examples

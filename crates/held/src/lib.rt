@@ -1,6 +1,6 @@
 // Held expressions as words of an area: their one encoding, the check that words are one, and where arguments stand.
 //
-// word.rt says how to read an area by hand; docs/ENCODING.md, which will say more, is still to come.
+// docs/ENCODING.md says how to read an area by hand.
 #![tactic(auto)]
 
 pub mod arguments;
