@@ -1,10 +1,11 @@
 -- What `nested` takes, one event after the other, is exactly what a reader owes the machine. Assumes nothing.
 --
 --   nested-owed, owed-nested   events before a finish that it takes, from nothing open on, are owed; and it takes those that are
---   nested-log, log-nested     the same of whole logs, whose last event is the finish
+--   nested-log, log-nested     the same of whole logs, whose last event is the finish; `log-owed`: they are owed so far, too
 --   nested-opened              as many names are open as meaning counts elements, and never more than 64
 --   names_known                each open name is the table's
 --   owed-accepted, owed-known  so the machine may take them: meaning's `Accepted` and `Known`
+--   event-meant                the event of an answer is the one that the nesting is asked about
 --   offered-owed, offered-log  this reader with the nesting owes no more: what `read_event` gives and `nested` takes is owed
 use Rattle.std.proofs.Common.{◌≡◌, ℕ, suc, ◌<◌, ◌≤◌, refl, sym, ap, ◌∙◌, subst, Bool, true, false, cond, List, [], ◌∷◌, ◌++◌, append_assoc, append-nil, length, T, Result, Ok, Err, arith}
 use Rattle.std.proofs.Math.Dec.{eqb, ltb}
