@@ -10,3 +10,4 @@ pub mod Once
 pub mod Indexing
 pub mod Finding
 pub mod Examples
+pub mod Decode

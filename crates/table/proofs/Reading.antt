@@ -38,7 +38,7 @@ first-field : (x : ℕ) (bs : List ℕ) (at : ℕ) → fields_from (x ∷ bs) at
 unfolding fields_from
 first-field x bs at = refl
 
-too-few : (x : ℕ) (bs : List ℕ) (at : ℕ) → length bs < 2 + length_at bs → fields_from (x ∷ bs) at 0 ≡ cut at
+pub too-few : (x : ℕ) (bs : List ℕ) (at : ℕ) → length bs < 2 + length_at bs → fields_from (x ∷ bs) at 0 ≡ cut at
 too-few x bs at h = let e : whole bs ≡ false = lt-leb (2 + length_at bs) (length bs) h in first-field x bs at ∙ rw e
 
 module _ (x h l : ℕ) (k : List ℕ) where
@@ -230,7 +230,7 @@ module _ (C : Contents) (p t : ℕ) (c : List ℕ) (fs : Fields) where
   check-on z e = rw (e, ne_eqb t 4 z, check_fields)
 
 -- behind the end field
-behind-end : (C : Contents) (d : List ℕ) (p : ℕ) → ◌≡◌ {A = ℕ × ℕ} ((behind_end C (fields_from d p 0)).number, (behind_end C (fields_from d p 0)).place) (cond (eqb (length d) 0) 0 1, p)
+pub behind-end : (C : Contents) (d : List ℕ) (p : ℕ) → ◌≡◌ {A = ℕ × ℕ} ((behind_end C (fields_from d p 0)).number, (behind_end C (fields_from d p 0)).place) (cond (eqb (length d) 0) 0 1, p)
 unfolding fields_from
 behind-end C [] p = refl
 behind-end C (x ∷ d) p = go (whole d) (first-field x d p) ∙ ap (λ (t : Bool). (cond t 0 1, p)) (sym (ne_eqb (suc (length d)) 0 (λ z. omega arith)))
