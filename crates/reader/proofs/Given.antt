@@ -6,6 +6,7 @@
 --   cut-given, given-cut      11 of finish with an element open, and of nothing else
 --   not_byte, not_name        the nesting has no other refusal
 --   refused_first             4, 11 and 5 of the bytes, whatever is open
+--   nested-once               no second answer fits what `after` ensures
 use Rattle.std.proofs.Common.{◌≡◌, ℕ, ◌≤◌, refl, sym, ap, ◌∙◌, Bool, true, false, cond, List, [], ◌∷◌, length, Result, Ok, Err}
 use Rattle.std.proofs.Math.Dec.{eqb, ltb}
 use Rattle.std.proofs.lemmas.Bool.{ne_eqb, eq-eqb, ltb-false, le-ltb}
@@ -96,3 +97,6 @@ not_name (m ∷ o) finish e = cc
 pub refused_first : (names : List (List ℕ)) (o bs : List ℕ) (r : Refusal) → read_event names bs ≡ Err r → read_nested names o bs ≡ Err r
 unfolding read_nested
 refused_first names o bs r h = rw h
+
+pub nested-once : (o : List ℕ) (v : Event) (r s : Result (List ℕ) Refusal) → r ≡ nested o v → s ≡ nested o v → r ≡ s
+nested-once o v r s e f = e ∙ sym f

@@ -4,7 +4,8 @@
 --   length-laid, before-laid, behind-laid   the output is as long as it was, and each byte before and behind stays
 --   none_free                               at the output's end or past it no item has room, and the output stays
 --   written-stream                          tokens that are written one behind the other: the bytes of their stream, laid once
-use Rattle.std.proofs.Common.{ℕ, ◌+◌, ◌-◌, ◌≡◌, ◌≤◌, ◌<◌, refl, sym, ap, ap₂, ◌∙◌, Bool, true, false, cond, List, [], ◌∷◌, ◌++◌, append_assoc, None, length, get_or, take, drop, length-append, length-drop, add-zero, arith}
+--   written-once                            no second answer, and no other output, fits what `write_at` ensures
+use Rattle.std.proofs.Common.{ℕ, ◌+◌, ◌-◌, ◌≡◌, ◌≤◌, ◌<◌, refl, sym, ap, ap₂, ◌∙◌, Bool, true, false, cond, List, [], ◌∷◌, ◌++◌, append_assoc, Option, None, length, get_or, take, drop, length-append, length-drop, add-zero, arith}
 use Rattle.std.proofs.Math.Dec.{leb}
 use Rattle.std.proofs.lemmas.Bool.{leb-true}
 use Rattle.std.proofs.lemmas.List.{drop-drop, take-append-drop, length-take-le, get_or-take, get_or-drop, get_or_append_left}
@@ -102,3 +103,8 @@ written-stream names (t ∷ ts) l i h =
     ap (λ (x : List ℕ). written_at names ts x (i + length b)) (sym (all_laid l b i (omega arith)))
     ∙ written-stream names ts (over l i b) (i + length b) (omega arith)
     ∙ over-over l b r i (omega arith)
+
+pub written-once : (l : List ℕ) (i : ℕ) (it : Item) (r s : Option ℕ) (x y : List ℕ)
+    → r ≡ room l i (item_bytes it) → x ≡ laid l i (item_bytes it) → s ≡ room l i (item_bytes it) → y ≡ laid l i (item_bytes it)
+    → (r ≡ s) × (x ≡ y)
+written-once l i it r s x y e g f h = (e ∙ sym f, g ∙ sym h)
