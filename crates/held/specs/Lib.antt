@@ -1,3 +1,4 @@
+pub mod Areas
 pub mod Words
 pub mod Read
 pub mod Scan

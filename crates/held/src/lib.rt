@@ -3,6 +3,7 @@
 // docs/ENCODING.md says how to read an area by hand.
 #![tactic(auto)]
 
+pub mod areas;
 pub mod arguments;
 pub mod check;
 pub mod vocabulary;
