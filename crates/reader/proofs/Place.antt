@@ -3,12 +3,12 @@
 --   rest-prefix   a name ends behind the bytes at the front that names may have, if its `>` stands there
 --   Placed        a name of so many bytes stands at the front, its `>` behind it
 --   scan-starts   the bytes begin with a word, or the word with them
-use Rattle.std.proofs.Common.{◌≡◌, ℕ, zero, suc, ◌+◌, ◌<◌, ◌≤◌, refl, sym, ap, ◌∙◌, Bool, true, false, ◌&&◌, ◌||◌, cond, List, [], ◌∷◌, ◌++◌, length, get_or, take, drop, append_assoc, length-append, T, Ok, Err, arith}
+use Rattle.std.proofs.Common.{◌≡◌, ℕ, zero, suc, ◌+◌, ◌-◌, ◌<◌, ◌≤◌, refl, sym, ap, ◌∙◌, Bool, true, false, ◌&&◌, ◌||◌, cond, List, [], ◌∷◌, ◌++◌, length, get_or, take, drop, append_assoc, length-append, T, Ok, Err, arith}
 use Rattle.std.proofs.Math.Dec.{eqb}
 use Rattle.std.proofs.lemmas.Bool.{ne_eqb}
 use Rattle.std.proofs.lemmas.List.{length-take-le}
 use Rattle.std.proofs.Math.ListN.{drop_of_length-le}
-use Rattle.std.proofs.Math.Seq.{drop-cons, take_at}
+use Rattle.std.proofs.Math.Seq.{drop-cons, take_at, take-length}
 use Rattle.std.specs.List.{prefix_len, starts_with}
 use Rattle.table.specs.Format.{is_name}
 use Rattle.alphabet.specs.Classes.{name_start, name_part, is_letter, is_digit}
@@ -48,23 +48,6 @@ rest-prefix (suc k) (b ∷ bs) = go (name_part b) refl (rest-prefix k bs)
         rw (part_not_end b e, h, n) (longer b (take (parts k bs) bs) (drop (parts k bs) bs))
     go false e h = refl
 
-start_part : (b : ℕ) → name_start b ≡ true → name_part b ≡ true
-unfolding name_start name_part
-start_part b h = go (is_letter b) (eqb b 95) h
-  where
-    go : (x y : Bool) → (x || y) ≡ true → (x || (is_digit b || (eqb b 45 || (y || eqb b 46)))) ≡ true
-    go true y h = refl
-    go false true h = digit (is_digit b)
-      where
-        digit : (d : Bool) → (d || (eqb b 45 || true)) ≡ true
-        digit true = refl
-        digit false = grind arith
-    go false false h = cc
-
-start-rest : (b : ℕ) (bs : List ℕ) → name_start b ≡ true → scan_name (b ∷ bs) ≡ name_rest 32 (b ∷ bs)
-unfolding scan_name name_rest
-start-rest b bs h = rw (h, part_not_end b (start_part b h), start_part b h)
-
 module _ (l : List ℕ) where
   pub name_none : length l ≡ 0 → Err Cut ≡ end_at (scan_name l)
   unfolding end_at scan_name
@@ -78,26 +61,31 @@ module _ (l : List ℕ) where
       go [] h e = absurd (omega arith)
       go (b ∷ bs) h e = rw e
 
-  -- behind a name's first byte b, the n bytes that names may have
-  module _ (b n : ℕ) (f : b ≡ get_or l 0 0) (s : name_start b ≡ true) (i : 0 < length l) (p : n ≡ prefix_len name_part (take 32 l)) where
-    scanned : scan_name l ≡ closed (take n l) (drop n l)
-    scanned = rw p (go l (ap name_start (sym f) ∙ s) i)
+  -- behind a name's first byte b, the m bytes that names may have
+  module _ (b m : ℕ) (f : b ≡ get_or l 0 0) (s : name_start b ≡ true) (i : 0 < length l) (p : m ≡ prefix_len name_part (take 31 (take (length l - 1) (drop 1 l)))) where
+    scanned : scan_name l ≡ closed (take (1 + m) l) (drop (1 + m) l)
+    unfolding scan_name
+    scanned = go l (ap name_start (sym f) ∙ s) i p
       where
-        go : (bs : List ℕ) → name_start (get_or bs 0 0) ≡ true → 0 < length bs → scan_name bs ≡ closed (take (parts 32 bs) bs) (drop (parts 32 bs) bs)
-        go [] t h = absurd (omega arith)
-        go (c ∷ bs) t h = start-rest c bs t ∙ rest-prefix 32 (c ∷ bs)
+        go : (bs : List ℕ) → name_start (get_or bs 0 0) ≡ true → 0 < length bs → m ≡ parts 31 (take (length bs - 1) (drop 1 bs)) → scan_name bs ≡ closed (take (1 + m) bs) (drop (1 + m) bs)
+        go [] t h q = absurd (omega arith)
+        go (c ∷ bs) t h q =
+            let e : length (c ∷ bs) - 1 ≡ length bs = omega arith in
+            let n : m ≡ parts 31 bs = q ∙ rw (e, take-length bs) in
+            let z : 1 + m ≡ suc m = omega arith in
+            rw (t, z, n) (rw (rest-prefix 31 bs) (longer c (take (parts 31 bs) bs) (drop (parts 31 bs) bs)))
 
-    pub name_cut : length l ≤ n → Err Cut ≡ end_at (scan_name l)
+    pub name_cut : length l ≤ 1 + m → Err Cut ≡ end_at (scan_name l)
     unfolding end_at
-    name_cut h = rw (scanned, drop_of_length-le l {i = n} h)
+    name_cut h = rw (scanned, drop_of_length-le l {i = 1 + m} h)
 
-    pub name_ends : n < length l → get_or l n 0 ≡ 62 → Ok n ≡ end_at (scan_name l)
+    pub name_ends : 1 + m < length l → get_or l (1 + m) 0 ≡ 62 → Ok (1 + m) ≡ end_at (scan_name l)
     unfolding end_at
-    name_ends h e = rw (scanned, drop-cons l n 0 h, e) (ap Ok (sym (length-take-le n l (omega arith))))
+    name_ends h e = rw (scanned, drop-cons l (1 + m) 0 h, e) (ap Ok (sym (length-take-le (1 + m) l (omega arith))))
 
-    pub name_bad : n < length l → (get_or l n 0 ≡ 62 → ⊥) → Err Byte ≡ end_at (scan_name l)
+    pub name_bad : 1 + m < length l → (get_or l (1 + m) 0 ≡ 62 → ⊥) → Err Byte ≡ end_at (scan_name l)
     unfolding end_at
-    name_bad h e = rw (scanned, drop-cons l n 0 h, ne_eqb (get_or l n 0) 62 e)
+    name_bad h e = rw (scanned, drop-cons l (1 + m) 0 h, ne_eqb (get_or l (1 + m) 0) 62 e)
 
 pub name_within : (l n : List ℕ) → scan_name l ≡ whole n → length n < length l
 name_within l n e =

@@ -1,39 +1,24 @@
--- References: the five are tried one after the other, and those that are passed begin nothing. Assumes nothing.
-use Rattle.std.proofs.Common.{◌≡◌, ℕ, suc, ◌+◌, ◌<◌, ◌≤◌, refl, sym, ap, ◌∙◌, Bool, true, false, cond, List, [], ◌∷◌, length, get_or, drop, map, add-one, Bor, Result, Err, arith}
+-- References: the first byte, and behind an `a` the second, tell which of the five it can be. Assumes nothing.
+--
+--   Only            which reference the bytes can only be: one word is all that is left to compare
+--   reference_word  the answer for that word is the answer for the five
+use Rattle.std.proofs.Common.{◌≡◌, ℕ, suc, ◌+◌, ◌<◌, ◌≤◌, refl, sym, ap, ◌∙◌, Bool, true, false, cond, List, [], ◌∷◌, length, get_or, drop, add-one, Result, Err, arith}
 use Rattle.std.proofs.Math.Dec.{eqb}
-use Rattle.std.proofs.lemmas.List.{get_or-map, length-map}
+use Rattle.std.proofs.lemmas.Bool.{ne_eqb}
 use Rattle.std.proofs.Math.ListN.{drop_of_length-le}
 use Rattle.std.proofs.Math.Seq.{drop-cons}
 use Rattle.reader.specs.declared.found.Found.{Found}
 use Rattle.reader.specs.declared.found.Refusal.{Refusal}
-use Rattle.reader.specs.declared.found.Refusal.TheVariants.{Byte}
+use Rattle.reader.specs.declared.found.Refusal.TheVariants.{Byte, Cut}
 use Rattle.reader.specs.Form.{Reference, lt, gt, amp, quot, apos, letters, meant, ref_of}
 use Rattle.reader.specs.Place.{word_found}
 use Rattle.reader.specs.Read.{found_of, answered}
 use Rattle.reader.specs.Scan.{Scan, whole, cut, bad, over, or_else, scan_word, scan_among, scan_reference}
 
-abbrev pub all : List Reference
-all = lt ∷ gt ∷ amp ∷ quot ∷ apos ∷ []
-
--- the words and leaves are the references', and the first i of them are passed
-pub record Tried (bs : List ℕ) (items : List (Bor (List ℕ) × ℕ)) (i : ℕ) : Type 0 where
-  pub words : map (λ p. p.0.now) items ≡ map letters all
-  pub leaves : map (λ p. p.1) items ≡ map meant all
-  pub passed : scan_reference bs ≡ scan_among (drop i all) bs
-
--- one reference, or else the others
-module _ (f : Result Found Refusal) where
-  first_answer : (s t : Scan Reference) → f ≡ answered [] (over ref_of s) → (f ≡ Err Byte → ⊥) → f ≡ answered [] (over ref_of (or_else s t))
-  unfolding answered
-  first_answer (whole r) t e n = e
-  first_answer cut t e n = e
-  first_answer bad t e n = absurd (n e)
-
-  none_first : (s t : Scan Reference) → f ≡ answered [] (over ref_of s) → f ≡ Err Byte → or_else s t ≡ t
-  unfolding answered found_of
-  none_first (whole r) t e b = cc
-  none_first cut t e b = cc
-  none_first bad t e b = refl
+or_bad : (s : Scan Reference) → or_else s bad ≡ s
+or_bad (whole a) = refl
+or_bad cut = refl
+or_bad bad = refl
 
 found-answered : (r : Reference) (ws bs : List ℕ) → word_found (suc (length (letters r))) (scan_word (meant r) ws bs) ≡ answered [] (over ref_of (scan_word r ws bs))
 unfolding word_found answered found_of scan_word
@@ -46,31 +31,70 @@ found-answered r (w ∷ ws) (b ∷ bs) = go (eqb b w) (found-answered r ws bs)
     go true e = e
     go false e = refl
 
-module _ {bs : List ℕ} {items : List (Bor (List ℕ) × ℕ)} {i : ℕ} (t : Tried bs items i) where
-  pub tried_all : 5 ≤ i → Err Byte ≡ answered [] (over ref_of (scan_reference bs))
-  unfolding answered scan_among
-  tried_all h = rw (t.passed, drop_of_length-le all {i = i} h)
+module _ (l : List ℕ) where
+  -- which reference the bytes behind a `&` can only be
+  pub Only : Reference → Type 0
+  Only r = scan_reference l ≡ scan_word r (letters r) l
 
-  -- the answer for the i-th
-  module _ (h : i < 5) (d : Bor (List ℕ) × ℕ) (f : Result Found Refusal) (g : f ≡ word_found (length (get_or items i d).0.now + 1) (scan_word (get_or items i d).1 (get_or items i d).0.now bs)) where
-    in_items : i < length items
-    in_items = omega (arith, length-map items (λ p. p.1), ap length t.leaves)
+  -- what looking for that one word answers
+  abbrev pub one : Reference → Result Found Refusal
+  one r = word_found (length (letters r) + 1) (scan_word (meant r) (letters r) l)
 
-    word_at : (get_or items i d).0.now ≡ letters (get_or all i lt)
-    word_at = sym (get_or-map (λ p. p.0.now) items i d [] in_items) ∙ ap (λ (l : List (List ℕ)). get_or l i []) t.words ∙ get_or-map letters all i lt [] h
+  abbrev pub wanted : Result Found Refusal
+  wanted = answered [] (over ref_of (scan_reference l))
 
-    leaf_at : (get_or items i d).1 ≡ meant (get_or all i lt)
-    leaf_at = sym (get_or-map (λ p. p.1) items i d 0 in_items) ∙ ap (λ (l : List ℕ). get_or l i 0) t.leaves ∙ get_or-map meant all i lt 0 h
+  pub reference_word : (r : Reference) → Only r → one r ≡ wanted
+  unfolding Only
+  reference_word r o = rw (add-one (length (letters r))) (found-answered r (letters r) l) ∙ ap (λ (s : Scan Reference). answered [] (over ref_of s)) (sym o)
 
-    or_later : scan_reference bs ≡ or_else (scan_word (get_or all i lt) (letters (get_or all i lt)) bs) (scan_among (drop (i + 1) all) bs)
-    unfolding scan_among
-    or_later = t.passed ∙ rw (drop-cons all i lt h, add-one i)
+  pub reference_none : length l ≡ 0 → Err Cut ≡ wanted
+  unfolding answered scan_reference scan_among scan_word
+  reference_none h = rw (drop_of_length-le l {i = 0} (omega arith))
 
-    answered_first : f ≡ answered [] (over ref_of (scan_word (get_or all i lt) (letters (get_or all i lt)) bs))
-    answered_first = g ∙ rw (word_at, leaf_at, add-one (length (letters (get_or all i lt)))) (found-answered (get_or all i lt) (letters (get_or all i lt)) bs)
+  module _ (h : 0 < length l) where
+    pub only_lt : get_or l 0 0 ≡ 108 → Only lt
+    unfolding Only scan_reference scan_among scan_word
+    only_lt e = rw (drop-cons l 0 0 h, e) (or_bad (scan_word lt (116 ∷ 59 ∷ []) (drop 1 l)))
 
-    pub tried_here : (f ≡ Err Byte → ⊥) → f ≡ answered [] (over ref_of (scan_reference bs))
-    tried_here x = rw or_later (first_answer f _ _ answered_first x)
+    pub only_gt : get_or l 0 0 ≡ 103 → Only gt
+    unfolding Only scan_reference scan_among scan_word
+    only_gt e = rw (drop-cons l 0 0 h, e) (or_bad (scan_word gt (116 ∷ 59 ∷ []) (drop 1 l)))
 
-    pub tried_next : f ≡ Err Byte → Tried bs items (i + 1)
-    tried_next e = record { words = t.words; leaves = t.leaves; passed = or_later ∙ none_first f _ _ answered_first e }
+    pub only_quot : get_or l 0 0 ≡ 113 → Only quot
+    unfolding Only scan_reference scan_among scan_word
+    only_quot e = rw (drop-cons l 0 0 h, e) (or_bad (scan_word quot (117 ∷ 111 ∷ 116 ∷ 59 ∷ []) (drop 1 l)))
+
+    pub only_amp : 1 < length l → get_or l 0 0 ≡ 97 → get_or l 1 0 ≡ 109 → Only amp
+    unfolding Only scan_reference scan_among scan_word
+    only_amp n e f = rw (drop-cons l 0 0 h, e, drop-cons l 1 0 n, f) (or_bad (scan_word amp (112 ∷ 59 ∷ []) (drop 2 l)))
+
+    pub only_apos : 1 < length l → get_or l 0 0 ≡ 97 → (get_or l 1 0 ≡ 109 → ⊥) → Only apos
+    unfolding Only scan_reference scan_among scan_word
+    only_apos n e f = rw (drop-cons l 0 0 h, e, drop-cons l 1 0 n, ne_eqb (get_or l 1 0) 109 f) (or_bad (scan_word apos (97 ∷ 112 ∷ 111 ∷ 115 ∷ 59 ∷ []) (97 ∷ get_or l 1 0 ∷ drop 2 l)))
+
+    pub a_cut : get_or l 0 0 ≡ 97 → length l ≤ 1 → Err Cut ≡ wanted
+    unfolding answered scan_reference scan_among scan_word
+    a_cut e n = rw (drop-cons l 0 0 h, e, drop_of_length-le l {i = 1} n)
+
+    pub reference_bad : (get_or l 0 0 ≡ 108 → ⊥) → (get_or l 0 0 ≡ 103 → ⊥) → (get_or l 0 0 ≡ 113 → ⊥) → (get_or l 0 0 ≡ 97 → ⊥) → Err Byte ≡ wanted
+    unfolding answered scan_reference scan_among scan_word
+    reference_bad a b c d = rw (drop-cons l 0 0 h, ne_eqb (get_or l 0 0) 108 a, ne_eqb (get_or l 0 0) 103 b, ne_eqb (get_or l 0 0) 113 c, ne_eqb (get_or l 0 0) 97 d)
+
+    module _ (f : Result Found Refusal) where
+      pub reference_lt : get_or l 0 0 ≡ 108 → f ≡ one lt → f ≡ wanted
+      reference_lt e g = g ∙ reference_word lt (only_lt e)
+
+      pub reference_gt : get_or l 0 0 ≡ 103 → f ≡ one gt → f ≡ wanted
+      reference_gt e g = g ∙ reference_word gt (only_gt e)
+
+      pub reference_quot : get_or l 0 0 ≡ 113 → f ≡ one quot → f ≡ wanted
+      reference_quot e g = g ∙ reference_word quot (only_quot e)
+
+      pub a_cutmp : 1 < length l → get_or l 0 0 ≡ 97 → get_or l 1 0 ≡ 109 → f ≡ one amp → f ≡ wanted
+      a_cutmp n e a g = g ∙ reference_word amp (only_amp n e a)
+
+      pub a_cutpos : 1 < length l → get_or l 0 0 ≡ 97 → (get_or l 1 0 ≡ 109 → ⊥) → f ≡ one apos → f ≡ wanted
+      a_cutpos n e a g = g ∙ reference_word apos (only_apos n e a)
+
+-- what the check uses to prove the function over references
+pub ruleset reference_laws = (reference_none, a_cut, reference_bad, reference_lt, reference_gt, reference_quot, a_cutmp, a_cutpos)

@@ -22,12 +22,12 @@ pub fn read_event(names: &Names, bytes: &[u8]) -> Result<Found, Refusal>
 {
     match bytes {
         [] => Err(Refusal::Cut),
-        [b'<', rest @ ..] => tag::tag(names, rest),
-        [b'&', rest @ ..] => reference::reference(rest),
         [b, ..] if alphabet::is_text(*b) => Ok(Found {
             event: Event::Character(*b),
             taken: 1,
         }),
+        [b'<', rest @ ..] => tag::tag(names, rest),
+        [b'&', rest @ ..] => reference::reference(rest),
         _ => Err(Refusal::Byte),
     }
 }

@@ -1,7 +1,7 @@
 // Names, up to the `>` behind them.
 #![tactic(auto, using(crate::proofs::Place::name_laws))]
 
-ghost use Rattle.std.specs.Prelude.{◌≡◌, take};
+ghost use Rattle.std.specs.Prelude.{◌≡◌, ◌≤◌, ◌-◌, length, take};
 ghost use Rattle.std.specs.List.{prefix_len};
 ghost use Rattle.alphabet.specs.Classes.{name_part};
 ghost use Rattle.reader.specs.declared.name.TheConstants.{LONGEST};
@@ -13,13 +13,14 @@ use crate::Refusal;
 // "A name has 1 to 32 bytes"
 const LONGEST: usize = 32;
 
-// How many bytes at the front a name may have.
+// How many bytes a name may have behind its first.
 fn parts(bytes: &[u8]) -> usize
-    ensures { result ≡ prefix_len name_part (take LONGEST bytes.now) }
+    ensures same { result ≡ prefix_len name_part (take (LONGEST - 1) bytes.now) }
+    ensures within { result ≤ length bytes.now }
 {
     bytes
         .iter()
-        .take(LONGEST)
+        .take(LONGEST - 1)
         .take_while(|b| alphabet::is_name_part(**b))
         .count()
 }
@@ -28,13 +29,13 @@ fn parts(bytes: &[u8]) -> usize
 pub fn name_end(bytes: &[u8]) -> Result<usize, Refusal>
     ensures { result ≡ end_at (scan_name bytes.now) }
 {
-    let Some(first) = bytes.first() else {
+    let [first, rest @ ..] = bytes else {
         return Err(Refusal::Cut);
     };
     if !alphabet::is_name_start(*first) {
         return Err(Refusal::Byte);
     }
-    let long = parts(bytes);
+    let long = 1 + parts(rest);
     match bytes.get(long) {
         None => Err(Refusal::Cut),
         Some(b'>') => Ok(long),

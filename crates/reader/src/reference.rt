@@ -1,5 +1,5 @@
 // The five references: `&lt;` `&gt;` `&amp;` `&quot;` `&apos;`.
-#![tactic(auto, using(crate::proofs::Place::word_laws), unfolding(crate::specs::Place::word_found, crate::specs::Scan::scan_reference))]
+#![tactic(auto, using(crate::proofs::Place::word_laws, crate::proofs::References::reference_laws), unfolding(crate::specs::Place::word_found))]
 
 ghost use Rattle.std.specs.Prelude.{◌≡◌, ◌+◌, length, []};
 ghost use Rattle.reader.specs.Form.{ref_of};
@@ -8,15 +8,6 @@ ghost use Rattle.reader.specs.Read.{answered};
 ghost use Rattle.reader.specs.Scan.{over, scan_word, scan_reference};
 
 use crate::{Event, Found, Refusal};
-
-// What stands behind the `&` of each, and the leaf that it means.
-const REFERENCES: [(&[u8], u8); 5] = [
-    (b"lt;", b'<'),
-    (b"gt;", b'>'),
-    (b"amp;", b'&'),
-    (b"quot;", b'"'),
-    (b"apos;", b'\''),
-];
 
 // The leaf c, where the bytes behind a `&` begin with `word`.
 fn leaf(bytes: &[u8], word: &[u8], c: u8) -> Result<Found, Refusal>
@@ -34,15 +25,20 @@ fn leaf(bytes: &[u8], word: &[u8], c: u8) -> Result<Found, Refusal>
     }
 }
 
-// What stands behind a `&`.
+// What stands behind a `&`. Its first byte tells which of the five it can be, and behind an `a` its second: one word is compared.
 pub fn reference(bytes: &[u8]) -> Result<Found, Refusal>
     ensures { result ≡ answered [] (over ref_of (scan_reference bytes.now)) }
 {
-    for (word, c) in REFERENCES {
-        let found = leaf(bytes, word, c);
-        if found != Err(Refusal::Byte) {
-            return found;
-        }
+    match bytes.first() {
+        None => Err(Refusal::Cut),
+        Some(b'l') => leaf(bytes, b"lt;", b'<'),
+        Some(b'g') => leaf(bytes, b"gt;", b'>'),
+        Some(b'q') => leaf(bytes, b"quot;", b'"'),
+        Some(b'a') => match bytes.get(1) {
+            None => Err(Refusal::Cut),
+            Some(b'm') => leaf(bytes, b"amp;", b'&'),
+            Some(_) => leaf(bytes, b"apos;", b'\''),
+        },
+        Some(_) => Err(Refusal::Byte),
     }
-    Err(Refusal::Byte)
 }

@@ -99,7 +99,7 @@ front_shorter [] i k e = cc
 front_shorter (b ∷ l) i k e = omega (arith, shorter (kind_of b) l (i, k) e)
 
 module _ (names : ℕ) (ranks : List ℕ) (p n : ℕ) where
-  judged-put : (i : Item) (o : maybe.Option (List Item)) (d s : ℕ) (over : Bool)
+  pub judged-put : (i : Item) (o : maybe.Option (List Item)) (d s : ℕ) (over : Bool)
       → judged names ranks p n (put i o) d s over
       ≡ cond (allowed names ranks p n i && due ranks i d) (judged names ranks p n o (owed ranks i d) (s + words ranks i) (over || ltb 8 (owed ranks i d))) 3
   unfolding judged all_allowed closed few words_of

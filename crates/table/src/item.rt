@@ -29,15 +29,18 @@ pub enum Item {
 pub fn first_item(bytes: &[u8]) -> Option<(Item, &[u8])>
     ensures { MatchOption result (front bytes.now ≡ None) (λ r. front bytes.now ≡ Some (meant r.0, r.1.now)) }
 {
-    match bytes {
-        [0x10, name, rest @ ..] => Some((Item::Element(*name), rest)),
-        [0x11, rest @ ..] => Some((Item::Matched, rest)),
-        [0x12, byte, rest @ ..] => Some((Item::Letter(*byte), rest)),
-        [0x13, rest @ ..] => Some((Item::MatchedLetter, rest)),
-        [0x14, value, rest @ ..] => Some((Item::Value(*value), rest)),
-        [0x15, 1, state, rest @ ..] => Some((Item::Call(Source::Children, *state), rest)),
-        [0x15, 2, state, rest @ ..] => Some((Item::Call(Source::Siblings, *state), rest)),
-        [0x1F, rest @ ..] => Some((Item::End, rest)),
+    let [first, rest @ ..] = bytes else {
+        return None;
+    };
+    match (*first, rest) {
+        (0x10, [name, rest @ ..]) => Some((Item::Element(*name), rest)),
+        (0x11, rest) => Some((Item::Matched, rest)),
+        (0x12, [byte, rest @ ..]) => Some((Item::Letter(*byte), rest)),
+        (0x13, rest) => Some((Item::MatchedLetter, rest)),
+        (0x14, [value, rest @ ..]) => Some((Item::Value(*value), rest)),
+        (0x15, [1, state, rest @ ..]) => Some((Item::Call(Source::Children, *state), rest)),
+        (0x15, [2, state, rest @ ..]) => Some((Item::Call(Source::Siblings, *state), rest)),
+        (0x1F, rest) => Some((Item::End, rest)),
         _ => None,
     }
 }

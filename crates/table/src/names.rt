@@ -49,6 +49,7 @@ impl<'a> Names<'a> {
     }
 
     // The number of a name, where it is one of these.
+    #[inline]
     pub fn find_name(&self, name: &[u8]) -> Option<u8>
         ensures { result ≡ found self.now name.now }
     {

@@ -19,7 +19,7 @@ const MOST_OWED: usize = 8;
 const MOST_WORDS: usize = 64;
 
 // What a rule's pattern matches.
-#[derive(Clone, Copy, PartialEq, Eq)]
+#[derive(Clone, Copy)]
 enum Node {
     Element,
     Character,
@@ -59,7 +59,7 @@ fn has_source(pattern: usize, source: Source) -> bool
     ensures { result ≡ has_source pattern (source_meant source) }
 {
     match source {
-        Source::Children => matched(pattern) == Some(Node::Element),
+        Source::Children => matches!(matched(pattern), Some(Node::Element)),
         Source::Siblings => matched(pattern).is_some(),
     }
 }
@@ -71,9 +71,9 @@ impl<'a> Scope<'a> {
     {
         match item {
             Item::Element(name) => usize::from(name) < self.names,
-            Item::Matched => matched(self.pattern) == Some(Node::Element),
+            Item::Matched => matches!(matched(self.pattern), Some(Node::Element)),
             Item::Letter(byte) => is_leaf(byte),
-            Item::MatchedLetter => matched(self.pattern) == Some(Node::Character),
+            Item::MatchedLetter => matches!(matched(self.pattern), Some(Node::Character)),
             Item::Value(value) => usize::from(value) < self.values,
             Item::Call(source, state) => {
                 has_source(self.pattern, source) && self.states.rank(state).is_some()
