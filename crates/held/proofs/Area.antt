@@ -1,7 +1,11 @@
 -- Parts of an area, as lists. Assumes nothing.
-use Rattle.std.proofs.Common.{ℕ, zero, suc, ◌+◌, ◌-◌, ◌≤◌, ◌<◌, ◌≡◌, List, [], ◌∷◌, length, get_or, take, drop, slice_range, sym, ap, ◌∙◌, arith, suc-add, zero-add, add-one}
+use Rattle.std.proofs.Common.{ℕ, zero, suc, ◌+◌, ◌-◌, ◌≤◌, ◌<◌, ◌≡◌, List, [], ◌∷◌, length, get_or, take, drop, drop_of_length-le, slice_range, sym, ap, ◌∙◌, arith, suc-add, zero-add, add-one}
 use Rattle.std.proofs.Math.Seq.{slice, slice-cons, length-slice, take-nil, take-length}
-use Rattle.std.proofs.lemmas.List.{take-take, drop-drop}
+use Rattle.std.proofs.lemmas.List.{length-take, take-take, drop-drop}
+
+-- a part up to a place before its beginning has nothing
+pub slice_none : (f t : ℕ) (l : List ℕ) → t ≤ f → slice f t l ≡ []
+slice_none f t l h = let e : length (take t l) ≤ f = simp length-take (omega arith) in drop_of_length-le (take t l) e
 
 -- a part of a part, from its beginning on and up to a place
 drop-take : (f k : ℕ) (l : List ℕ) → drop f (take (f + k) l) ≡ take k (drop f l)

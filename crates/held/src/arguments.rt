@@ -8,6 +8,21 @@ ghost use Rattle.held.specs.Skip.{args_len, Stands};
 use crate::vocabulary::Vocabulary;
 use std::ops::Range;
 
+// From `from` up to `to`, that place not included: a `Range` that can be copied.
+#[derive(Clone, Copy, Debug, PartialEq, Eq, Hash)]
+pub struct Span {
+    pub from: usize,
+    pub to: usize,
+}
+
+impl From<Span> for Range<usize> {
+    ghost from_gives = { λ s r. (r.start ≡ s.from) × (r.end ≡ s.to) };
+
+    fn from(span: Span) -> Self {
+        span.from..span.to
+    }
+}
+
 impl<'a> Vocabulary<'a> {
     // How many of the words n arguments take, or all.
     pub fn skip_args(&self, words: &[u32], n: usize) -> usize
@@ -25,11 +40,14 @@ impl<'a> Vocabulary<'a> {
     }
 
     // Where the argument j stands, its end not included.
-    pub fn argument_at(&self, words: &[u32], j: usize) -> Range<usize>
-        ensures { Stands (vocab self.now) words.now 0 (length words.now) j result.start result.end }
+    pub fn argument_at(&self, words: &[u32], j: usize) -> Span
+        ensures { Stands (vocab self.now) words.now 0 (length words.now) j result.from result.to }
     {
-        let start = self.skip_args(words, j);
-        let len = self.skip_args(&words[start..], 1);
-        start..start + len.saturating_sub(1)
+        let from = self.skip_args(words, j);
+        let len = self.skip_args(&words[from..], 1);
+        Span {
+            from,
+            to: from + len.saturating_sub(1),
+        }
     }
 }
