@@ -3,7 +3,7 @@
 --   rest-prefix   a name ends behind the bytes at the front that names may have, if its `>` stands there
 --   Placed        a name of so many bytes stands at the front, its `>` behind it
 --   scan-starts   the bytes begin with a word, or the word with them
-use Rattle.std.proofs.Common.{◌≡◌, ℕ, zero, suc, ◌+◌, ◌-◌, ◌<◌, ◌≤◌, refl, sym, ap, ◌∙◌, Bool, true, false, ◌&&◌, ◌||◌, cond, List, [], ◌∷◌, ◌++◌, length, get_or, take, drop, append_assoc, length-append, T, Ok, Err, arith}
+use Rattle.std.proofs.Common.{◌≡◌, ℕ, zero, suc, ◌+◌, ◌-◌, ◌<◌, ◌≤◌, refl, sym, ap, ◌∙◌, Bool, true, false, ◌&&◌, cond, List, [], ◌∷◌, ◌++◌, length, get_or, take, drop, append_assoc, length-append, T, Ok, Err, arith}
 use Rattle.std.proofs.Math.Dec.{eqb}
 use Rattle.std.proofs.lemmas.Bool.{ne_eqb}
 use Rattle.std.proofs.lemmas.List.{length-take-le}
@@ -11,7 +11,7 @@ use Rattle.std.proofs.Math.ListN.{drop_of_length-le}
 use Rattle.std.proofs.Math.Seq.{drop-cons, take_at, take-length}
 use Rattle.std.specs.List.{prefix_len, starts_with}
 use Rattle.table.specs.Format.{is_name}
-use Rattle.alphabet.specs.Classes.{name_start, name_part, is_letter, is_digit}
+use Rattle.alphabet.specs.Classes.{name_start, name_part}
 use Rattle.reader.specs.declared.found.Refusal.TheVariants.{Byte, Cut}
 use Rattle.reader.specs.Place.{end_at}
 use Rattle.reader.specs.Scan.{Scan, whole, cut, bad, over, name_rest, scan_name, scan_word}

@@ -90,11 +90,11 @@ module _ (l : List ℕ) where
       pub reference_quot : get_or l 0 0 ≡ 113 → f ≡ one quot → f ≡ wanted
       reference_quot e g = g ∙ reference_word quot (only_quot e)
 
-      pub a_cutmp : 1 < length l → get_or l 0 0 ≡ 97 → get_or l 1 0 ≡ 109 → f ≡ one amp → f ≡ wanted
-      a_cutmp n e a g = g ∙ reference_word amp (only_amp n e a)
+      pub reference_amp : 1 < length l → get_or l 0 0 ≡ 97 → get_or l 1 0 ≡ 109 → f ≡ one amp → f ≡ wanted
+      reference_amp n e a g = g ∙ reference_word amp (only_amp n e a)
 
-      pub a_cutpos : 1 < length l → get_or l 0 0 ≡ 97 → (get_or l 1 0 ≡ 109 → ⊥) → f ≡ one apos → f ≡ wanted
-      a_cutpos n e a g = g ∙ reference_word apos (only_apos n e a)
+      pub reference_apos : 1 < length l → get_or l 0 0 ≡ 97 → (get_or l 1 0 ≡ 109 → ⊥) → f ≡ one apos → f ≡ wanted
+      reference_apos n e a g = g ∙ reference_word apos (only_apos n e a)
 
 -- what the check uses to prove the function over references
-pub ruleset reference_laws = (reference_none, a_cut, reference_bad, reference_lt, reference_gt, reference_quot, a_cutmp, a_cutpos)
+pub ruleset reference_laws = (reference_none, a_cut, reference_bad, reference_lt, reference_gt, reference_quot, reference_amp, reference_apos)

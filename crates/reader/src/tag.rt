@@ -10,8 +10,8 @@ use crate::name::name_end;
 use crate::{Event, Found, Refusal};
 use table::names::Names;
 
-// The number of the name that the bytes begin with, and how many bytes it has, its `>` too. In line: a tag of a byte or two is
-// read in less than the call would cost.
+// The number of the name that the bytes begin with, and how many bytes it has, its `>` too. In line, since the
+// answer would else go through memory.
 #[inline(always)]
 fn named(names: &Names, bytes: &[u8]) -> Result<(u8, usize), Refusal>
     ensures { result ≡ named_at names.now (scan_name bytes.now) }
