@@ -1,6 +1,5 @@
 -- A right side tallied item by item, as the code does it. Assumes nothing.
 --
---   matched     what a pattern matches: "patterns 01 and 02" an element, "pattern 03" a character
 --   ends        the ends owed after an item, with d owed before it; nothing where it is an end that is not owed
 --   tallied     a tally with one item more; nothing where the item may not stand there
 --   verdict     what the end of a right side comes to, with d ends owed, s words, and `over`
@@ -10,12 +9,7 @@ use Rattle.std.specs.Prelude.{ℕ, ◌+◌, Bool, cond, ◌&&◌, ◌||◌, List
 use Rattle.table.specs.Side as side
 use Rattle.table.specs.declared.refusal.Refusal.{Refusal}
 use Rattle.table.specs.declared.refusal.Refusal.TheVariants.{Form, Limit, Rule}
-use Rattle.table.specs.declared.side.Node.{Node}
-use Rattle.table.specs.declared.side.Node.TheVariants.{Element, Character}
 use Rattle.table.specs.declared.side.Tally.{Tally}
-
-abbrev pub matched : ℕ → Option Node
-matched p = cond (side.has_element p) (Some Element) (cond (eqb p 3) (Some Character) None)
 
 abbrev pub ends : List ℕ → side.Item → ℕ → Option ℕ
 ends ranks i d = cond (side.due ranks i d) (Some (side.owed ranks i d)) None

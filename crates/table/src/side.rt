@@ -5,9 +5,9 @@
 #![tactic(auto, using(crate::proofs::Naming::rank_laws, crate::proofs::Sides::side_laws))]
 
 ghost use Rattle.std.specs.Prelude.{◌≡◌, ◌+◌, ◌≤◌, length, get_or, IfSome};
-ghost use Rattle.table.specs.Side.{has_source, allowed, words, side_number};
+ghost use Rattle.table.specs.Side.{has_element, has_source, allowed, words, side_number};
 ghost use Rattle.table.specs.Items.{source_meant, meant};
-ghost use Rattle.table.specs.Tally.{matched, ends, tallied, number, verdict};
+ghost use Rattle.table.specs.Tally.{ends, tallied, number, verdict};
 
 use crate::item::{Item, Source, first_item};
 use crate::refusal::Refusal;
@@ -17,13 +17,6 @@ use alphabet::is_leaf;
 const MOST_OWED: usize = 8;
 
 const MOST_WORDS: usize = 64;
-
-// What a rule's pattern matches.
-#[derive(Clone, Copy)]
-enum Node {
-    Element,
-    Character,
-}
 
 // What the items of a rule may mention: names, states, what the rule's pattern matches, and the carried values of its state.
 #[derive(Drop)]
@@ -43,15 +36,11 @@ struct Tally {
     over: bool,
 }
 
-// An element is matched under patterns 01 and 02 only, a character under 03.
-fn matched(pattern: usize) -> Option<Node>
-    ensures { result ≡ matched pattern }
+// The matched element is there under patterns 01 and 02 only.
+fn has_element(pattern: usize) -> bool
+    ensures { result ≡ has_element pattern }
 {
-    match pattern {
-        1 | 2 => Some(Node::Element),
-        3 => Some(Node::Character),
-        _ => None,
-    }
+    matches!(pattern, 1 | 2)
 }
 
 // A character has no children, the empty list neither.
@@ -59,8 +48,8 @@ fn has_source(pattern: usize, source: Source) -> bool
     ensures { result ≡ has_source pattern (source_meant source) }
 {
     match source {
-        Source::Children => matches!(matched(pattern), Some(Node::Element)),
-        Source::Siblings => matched(pattern).is_some(),
+        Source::Children => has_element(pattern),
+        Source::Siblings => has_element(pattern) || pattern == 3,
     }
 }
 
@@ -71,9 +60,9 @@ impl<'a> Scope<'a> {
     {
         match item {
             Item::Element(name) => usize::from(name) < self.names,
-            Item::Matched => matches!(matched(self.pattern), Some(Node::Element)),
+            Item::Matched => has_element(self.pattern),
             Item::Letter(byte) => is_leaf(byte),
-            Item::MatchedLetter => matches!(matched(self.pattern), Some(Node::Character)),
+            Item::MatchedLetter => self.pattern == 3,
             Item::Value(value) => usize::from(value) < self.values,
             Item::Call(source, state) => {
                 has_source(self.pattern, source) && self.states.rank(state).is_some()
