@@ -36,18 +36,19 @@ module _ (l : List ℕ) where
   pub Only : Reference → Type 0
   Only r = scan_reference l ≡ scan_word r (letters r) l
 
-  -- what looking for that one word answers
-  abbrev pub one : Reference → Result Found Refusal
-  one r = word_found (length (letters r) + 1) (scan_word (meant r) (letters r) l)
+  -- the answer for the word of one reference
+  abbrev pub word_answer : Reference → Result Found Refusal
+  word_answer r = word_found (length (letters r) + 1) (scan_word (meant r) (letters r) l)
 
-  abbrev pub wanted : Result Found Refusal
-  wanted = answered [] (over ref_of (scan_reference l))
+  -- the answer for the five
+  abbrev pub answer : Result Found Refusal
+  answer = answered [] (over ref_of (scan_reference l))
 
-  pub reference_word : (r : Reference) → Only r → one r ≡ wanted
+  pub reference_word : (r : Reference) → Only r → word_answer r ≡ answer
   unfolding Only
   reference_word r o = rw (add-one (length (letters r))) (found-answered r (letters r) l) ∙ ap (λ (s : Scan Reference). answered [] (over ref_of s)) (sym o)
 
-  pub reference_none : length l ≡ 0 → Err Cut ≡ wanted
+  pub reference_none : length l ≡ 0 → Err Cut ≡ answer
   unfolding answered scan_reference scan_among scan_word
   reference_none h = rw (drop_of_length-le l {i = 0} (omega arith))
 
@@ -72,28 +73,28 @@ module _ (l : List ℕ) where
     unfolding Only scan_reference scan_among scan_word
     only_apos n e f = rw (drop-cons l 0 0 h, e, drop-cons l 1 0 n, ne_eqb (get_or l 1 0) 109 f) (or_bad (scan_word apos (97 ∷ 112 ∷ 111 ∷ 115 ∷ 59 ∷ []) (97 ∷ get_or l 1 0 ∷ drop 2 l)))
 
-    pub a_cut : get_or l 0 0 ≡ 97 → length l ≤ 1 → Err Cut ≡ wanted
+    pub a_cut : get_or l 0 0 ≡ 97 → length l ≤ 1 → Err Cut ≡ answer
     unfolding answered scan_reference scan_among scan_word
     a_cut e n = rw (drop-cons l 0 0 h, e, drop_of_length-le l {i = 1} n)
 
-    pub reference_bad : (get_or l 0 0 ≡ 108 → ⊥) → (get_or l 0 0 ≡ 103 → ⊥) → (get_or l 0 0 ≡ 113 → ⊥) → (get_or l 0 0 ≡ 97 → ⊥) → Err Byte ≡ wanted
+    pub reference_bad : (get_or l 0 0 ≡ 108 → ⊥) → (get_or l 0 0 ≡ 103 → ⊥) → (get_or l 0 0 ≡ 113 → ⊥) → (get_or l 0 0 ≡ 97 → ⊥) → Err Byte ≡ answer
     unfolding answered scan_reference scan_among scan_word
     reference_bad a b c d = rw (drop-cons l 0 0 h, ne_eqb (get_or l 0 0) 108 a, ne_eqb (get_or l 0 0) 103 b, ne_eqb (get_or l 0 0) 113 c, ne_eqb (get_or l 0 0) 97 d)
 
     module _ (f : Result Found Refusal) where
-      pub reference_lt : get_or l 0 0 ≡ 108 → f ≡ one lt → f ≡ wanted
+      pub reference_lt : get_or l 0 0 ≡ 108 → f ≡ word_answer lt → f ≡ answer
       reference_lt e g = g ∙ reference_word lt (only_lt e)
 
-      pub reference_gt : get_or l 0 0 ≡ 103 → f ≡ one gt → f ≡ wanted
+      pub reference_gt : get_or l 0 0 ≡ 103 → f ≡ word_answer gt → f ≡ answer
       reference_gt e g = g ∙ reference_word gt (only_gt e)
 
-      pub reference_quot : get_or l 0 0 ≡ 113 → f ≡ one quot → f ≡ wanted
+      pub reference_quot : get_or l 0 0 ≡ 113 → f ≡ word_answer quot → f ≡ answer
       reference_quot e g = g ∙ reference_word quot (only_quot e)
 
-      pub reference_amp : 1 < length l → get_or l 0 0 ≡ 97 → get_or l 1 0 ≡ 109 → f ≡ one amp → f ≡ wanted
+      pub reference_amp : 1 < length l → get_or l 0 0 ≡ 97 → get_or l 1 0 ≡ 109 → f ≡ word_answer amp → f ≡ answer
       reference_amp n e a g = g ∙ reference_word amp (only_amp n e a)
 
-      pub reference_apos : 1 < length l → get_or l 0 0 ≡ 97 → (get_or l 1 0 ≡ 109 → ⊥) → f ≡ one apos → f ≡ wanted
+      pub reference_apos : 1 < length l → get_or l 0 0 ≡ 97 → (get_or l 1 0 ≡ 109 → ⊥) → f ≡ word_answer apos → f ≡ answer
       reference_apos n e a g = g ∙ reference_word apos (only_apos n e a)
 
 -- what the check uses to prove the function over references
